@@ -1,0 +1,11 @@
+pub mod Basics
+pub mod Bytes
+pub mod Expr
+pub mod Meaning
+pub mod Places
+pub mod Names
+pub mod Bare
+pub mod Spelling
+pub mod Fits
+pub mod Equivalence
+pub mod Statements

@@ -1,0 +1,1 @@
+// The language: definitions in specs/, and what is true of it.

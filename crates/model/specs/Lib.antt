@@ -1,0 +1,12 @@
+pub mod Command
+pub mod Known
+pub mod State
+pub mod Rename
+pub mod FunctionNames
+pub mod Extract
+pub mod Inline
+pub mod Invert
+pub mod Model
+pub mod Engine
+pub mod Whole
+pub mod Statements

@@ -1,0 +1,1 @@
+// The reference model: definitions in specs/, and what is true of it.
