@@ -9,3 +9,5 @@ pub mod Spelling
 pub mod Fits
 pub mod Equivalence
 pub mod Statements
+pub mod Heads
+pub mod Reading
