@@ -10,3 +10,4 @@ pub mod Model
 pub mod Engine
 pub mod Whole
 pub mod Statements
+pub mod Reading

@@ -1,0 +1,3 @@
+// Commands read from bytes.
+pub mod field;
+pub mod request;
