@@ -1,2 +1,9 @@
+pub mod ListFacts
 pub mod NameFacts
+pub mod ByteFacts
 pub mod ReadingFacts
+pub mod StandsFacts
+pub mod HeadFacts
+pub mod NodeFacts
+pub mod ExprFacts
+pub mod ProgramFacts

@@ -1,6 +1,7 @@
 -- What stands at a place in a row of bytes: one thing after another, and eight bytes as a number. Assumes nothing.
 use mathlib.Core.Path.{_≡_, refl, ap, ap₂, sym, _∙_}
-use mathlib.Core.List.{List, [], _∷_, _++_}
+use mathlib.Core.Bool.{Bool, true, false}
+use mathlib.Core.List.{List, [], _∷_}
 use Prim.Native.Nat.{ℕ, zero, suc, _+_, _-_, _*_, _≤_, _<_}
 use native.Mathlib.Omega.{arith}
 use lib.ListN.{length, getD, take, drop}
@@ -49,16 +50,17 @@ unfolding ends
 ends-short bs i zero f h e = absurd (omega arith)
 ends-short bs i (suc n) f h e = ap (λ g. ends (suc n) g bs i) e
 
-abbrev next : ℕ → ℕ → List ℕ → Token → Option ℕ
-next m g bs t = pick (leb (arity (t .head) + m) (length bs - t .end)) (ends (arity (t .head) + m) g bs (t .end)) None
+-- after a head: its parts come next
+abbrev pub ends-after : ℕ → ℕ → List ℕ → Token → Option ℕ
+ends-after m g bs t = pick (leb (arity (t .head) + m) (length bs - t .end)) (ends (arity (t .head) + m) g bs (t .end)) None
 
-turn : (m g : ℕ) (bs : List ℕ) (i : ℕ) → ends (suc m) (suc g) bs i ≡ found (head-at bs i) (next m g bs)
+pub ends-turn : (m g : ℕ) (bs : List ℕ) (i : ℕ) → ends (suc m) (suc g) bs i ≡ found (head-at bs i) (ends-after m g bs)
 unfolding ends
-turn m g bs i = refl
+ends-turn m g bs i = refl
 
 module _ (bs : List ℕ) (i n m f g : ℕ) (some : n ≡ suc m) (turns : f ≡ suc g) where
-  one : (o : Option Token) → head-at bs i ≡ o → ends n f bs i ≡ found o (next m g bs)
-  one o e = ap₂ (λ a b. ends a b bs i) some turns ∙ turn m g bs i ∙ ap (λ t. found t (next m g bs)) e
+  one : (o : Option Token) → head-at bs i ≡ o → ends n f bs i ≡ found o (ends-after m g bs)
+  one o e = ap₂ (λ a b. ends a b bs i) some turns ∙ ends-turn m g bs i ∙ ap (λ t. found t (ends-after m g bs)) e
 
   pub ends-none : head-at bs i ≡ None → ends n f bs i ≡ None
   ends-none e = one None e
@@ -84,3 +86,16 @@ times-none s i (suc n) h e = ap (λ o. found o (λ j. times n s j)) e
 pub times-more : (s : ℕ → Option ℕ) (i j n m : ℕ) → n ≡ suc m → s i ≡ Some j → times n s i ≡ times m s j
 unfolding times
 times-more s i j n m p e = ap (λ k. times k s i) p ∙ ap (λ o. found o (λ k. times m s k)) e
+
+-- what was found came from something that was found, or from a test that held
+pub found-some : {A B : Type 0} (o : Option A) (f : A → Option B) (b : B) → found o f ≡ Some b → (a : A) × (o ≡ Some a) × (f a ≡ Some b)
+found-some None f b e = let z : _≡_ {A = ℕ} 0 1 = cc in absurd (omega arith)
+found-some (Some a) f b e = (a, refl, e)
+
+pub pick-some : {A : Type 0} (t : Bool) (a b : A) → pick t (Some a) None ≡ Some b → (t ≡ true) × (a ≡ b)
+pick-some true a b e = (refl, cc)
+pick-some false a b e = let z : _≡_ {A = ℕ} 0 1 = cc in absurd (omega arith)
+
+pub pick-found : {A : Type 0} (t : Bool) (o : Option A) (b : A) → pick t o None ≡ Some b → (t ≡ true) × (o ≡ Some b)
+pick-found true o b e = (refl, e)
+pick-found false o b e = let z : _≡_ {A = ℕ} 0 1 = cc in absurd (omega arith)
