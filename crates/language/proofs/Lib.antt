@@ -1,1 +1,3 @@
 pub mod NameFacts
+pub mod PlaceFacts
+pub mod FreeFacts
