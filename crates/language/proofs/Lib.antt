@@ -1,3 +1,5 @@
 pub mod NameFacts
 pub mod PlaceFacts
 pub mod FreeFacts
+pub mod BareRuns
+pub mod MeanFacts
