@@ -3,3 +3,6 @@ pub mod PlaceFacts
 pub mod FreeFacts
 pub mod BareRuns
 pub mod MeanFacts
+pub mod Readers
+pub mod FitFacts
+pub mod BareSpelling
