@@ -6,3 +6,4 @@ pub mod MeanFacts
 pub mod Readers
 pub mod FitFacts
 pub mod BareSpelling
+pub mod PlaceFits
