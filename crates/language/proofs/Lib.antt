@@ -7,3 +7,4 @@ pub mod Readers
 pub mod FitFacts
 pub mod BareSpelling
 pub mod PlaceFits
+pub mod ProgramFits
