@@ -1,6 +1,6 @@
 -- Expressions that fit: what their parts are, and how long an expression's spelling is by its parts. Assumes nothing.
 use mathlib.Core.Path.{_≡_, refl}
-use mathlib.Core.Bool.{Bool, true, _&&_}
+use mathlib.Core.Bool.{Bool, true, false, _&&_}
 use mathlib.Core.List.{_∷_, _++_}
 use Prim.Native.Nat.{ℕ, _+_, _≤_}
 use native.Mathlib.Omega.{arith}
@@ -8,6 +8,7 @@ use lib.Dec.{ltb, leb}
 use lib.ListN.{length, length-append}
 use borrow.Author.Tests.{leb-true}
 use Rattle.std.proofs.shelf.Tests.{and-parts, and-from}
+use Rattle.language.specs.Basics.{pick}
 use Rattle.language.specs.Bytes.{in-bytes, eight, with-length, all-bytes, Name}
 use Rattle.language.specs.Expr.{Expr, num, var, bin, call, bind, choice, tell, Exprs, expr-and, count-exprs}
 use Rattle.language.specs.Spelling.{expr-spelled, exprs-spelled}
@@ -18,6 +19,10 @@ and-three a b c h = let t = and-parts a (b && c) h in let u = and-parts b c (t .
 
 three-from : (a b c : Bool) → a ≡ true → b ≡ true → c ≡ true → (a && (b && c)) ≡ true
 three-from a b c p q r = and-from a (b && c) p (and-from b c q r)
+
+pub pick-true : {A : Type 0} (P : A → Bool) (t : Bool) (a b : A) → P a ≡ true → P b ≡ true → P (pick t a b) ≡ true
+pick-true P true a b h k = h
+pick-true P false a b h k = k
 
 pub bin-fit : (k : ℕ) (a b : Expr) → an-expr (bin k a b) ≡ true → (ltb k 6 ≡ true) × (an-expr a ≡ true) × (an-expr b ≡ true)
 unfolding an-expr

@@ -1,6 +1,6 @@
 -- What stands at a place of an expression that fits, fits; and put there, what fits keeps the whole so. Assumes nothing.
 use mathlib.Core.Path.{_≡_, refl, ap, sym, _∙_}
-use mathlib.Core.Bool.{Bool, true, false, _&&_}
+use mathlib.Core.Bool.{true, _&&_}
 use mathlib.Core.List.{List, [], _∷_, nil≢cons}
 use Prim.Native.Nat.{ℕ, zero, suc}
 use lib.Dec.{eqb, leb}
@@ -9,7 +9,7 @@ use Rattle.language.specs.Basics.{pick, every}
 use Rattle.language.specs.Expr.{Expr, num, var, bin, call, bind, choice, tell, Exprs, no-exprs, expr-and, exprs-in, count-exprs, parts}
 use Rattle.language.specs.Places.{nth-expr, in-some, at-place, put-nth, with-part, put-some, put-at}
 use Rattle.language.specs.Fits.{an-expr, all-exprs}
-use Rattle.language.proofs.FitFacts.{bin-fit, bind-fit, choice-fit, call-fit, exprs-fit, fit-bin, fit-bind, fit-choice, fit-call}
+use Rattle.language.proofs.FitFacts.{bin-fit, bind-fit, choice-fit, call-fit, exprs-fit, fit-bin, fit-bind, fit-choice, fit-call, pick-true}
 
 all-in : (es : Exprs) → all-exprs es ≡ true → every an-expr (exprs-in es) ≡ true
 unfolding all-exprs
@@ -60,27 +60,23 @@ put-nth-fit (expr-and a es) (suc k) e h fit =
     let each-fits = exprs-fit a es h in
     and-from (an-expr a) (all-exprs (put-nth es k e)) (each-fits .0) (put-nth-fit es k e (each-fits .1) fit)
 
-pick-fit : (t : Bool) (a b : Expr) → an-expr a ≡ true → an-expr b ≡ true → an-expr (pick t a b) ≡ true
-pick-fit true a b p q = p
-pick-fit false a b p q = q
-
 pub part-fit : (a : Expr) (k : ℕ) (e : Expr) → an-expr a ≡ true → an-expr e ≡ true → an-expr (with-part a k e) ≡ true
 unfolding with-part
 part-fit (num n) k e h fit = h
 part-fit (var x) k e h fit = h
 part-fit (bin o a b) k e h fit =
     let was = bin-fit o a b h in
-    pick-fit (eqb k 0) (bin o e b) (bin o a e) (fit-bin o e b (was .0) fit (was .2)) (fit-bin o a e (was .0) (was .1) fit)
+    pick-true an-expr (eqb k 0) (bin o e b) (bin o a e) (fit-bin o e b (was .0) fit (was .2)) (fit-bin o a e (was .0) (was .1) fit)
 part-fit (call f es) k e h fit =
     let was = call-fit f es h in
     fit-call f (put-nth es k e) (was .0) (ap (λ n. leb n 16) (nth-count es k e) ∙ was .1) (put-nth-fit es k e (was .2) fit)
 part-fit (bind x a b) k e h fit =
     let was = bind-fit x a b h in
-    pick-fit (eqb k 0) (bind x e b) (bind x a e) (fit-bind x e b (was .0) fit (was .2)) (fit-bind x a e (was .0) (was .1) fit)
+    pick-true an-expr (eqb k 0) (bind x e b) (bind x a e) (fit-bind x e b (was .0) fit (was .2)) (fit-bind x a e (was .0) (was .1) fit)
 part-fit (choice c a b) k e h fit =
     let was = choice-fit c a b h in
-    pick-fit (eqb k 0) (choice e a b) (pick (eqb k 1) (choice c e b) (choice c a e)) (fit-choice e a b fit (was .1) (was .2))
-    (pick-fit (eqb k 1) (choice c e b) (choice c a e) (fit-choice c e b (was .0) fit (was .2)) (fit-choice c a e (was .0) (was .1) fit))
+    pick-true an-expr (eqb k 0) (choice e a b) (pick (eqb k 1) (choice c e b) (choice c a e)) (fit-choice e a b fit (was .1) (was .2))
+    (pick-true an-expr (eqb k 1) (choice c e b) (choice c a e) (fit-choice c e b (was .0) fit (was .2)) (fit-choice c a e (was .0) (was .1) fit))
 part-fit (tell a) k e h fit = unfold an-expr in fit
 
 pub put-fit : (ks : List ℕ) (a e : Expr) → an-expr a ≡ true → an-expr e ≡ true → an-expr (put-at a ks e) ≡ true

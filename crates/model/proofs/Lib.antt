@@ -1,0 +1,4 @@
+pub mod SetFacts
+pub mod Kept
+pub mod RenameFacts
+pub mod RenameMeaning
