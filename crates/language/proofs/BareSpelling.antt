@@ -1,8 +1,8 @@
 -- A bare spelling can be read again, so expressions that fit and are alike have the same bare form.
 -- The numbers in a bare form have eight bytes, so all of them have to be below 2^64: in a bare form of what fits they are. Assumes nothing.
 use mathlib.Core.Path.{_≡_, refl, ap, sym, _∙_}
-use mathlib.Core.Bool.{Bool, true, false}
-use mathlib.Core.List.{List, [], _∷_, _++_, nil≢cons}
+use mathlib.Core.Bool.{true}
+use mathlib.Core.List.{List, [], _∷_, _++_}
 use Prim.Native.Nat.{ℕ, zero, suc, _+_, _*_, _≤_, _<_}
 use native.Mathlib.Omega.{arith}
 use lib.Dec.{eqb}
@@ -15,6 +15,7 @@ use Rattle.language.specs.Bare.{Bare, b-num, b-near, b-far, b-bin, b-call, b-b
 use Rattle.language.specs.Spelling.{expr-spelled, exprs-spelled}
 use Rattle.language.specs.Fits.{a-name, an-expr, all-exprs}
 use Rattle.language.proofs.NameFacts.{same-refl, same-eq}
+use Rattle.language.proofs.NearFacts.{near-below}
 use Rattle.language.proofs.FitFacts.{bin-fit, bind-fit, choice-fit, call-fit, exprs-fit, name-short, var-long, bin-long, call-long, bind-long, choice-long, tell-long, exprs-long}
 use Rattle.language.proofs.Readers.{got, Reader, Spells, spells-once, one-read, both-read, by-tag, one-spells, both-spells, read-eight, eight-spells, read-name, name-spells}
 
@@ -125,16 +126,6 @@ bare-once b c ok-b ok-c h =
     let n = length (bare-spelled b) in
     spells-once (read-bare n) (bare-spelled b) (bare-spelled c) b c
     (bare-spells n b (omega arith) ok-b) (bare-spells n c (omega (arith, ap length h)) ok-c) h
-
--- a bind is nearer than there are names
-pub near-below : (xs : List Name) (x : Name) (k j : ℕ) (js : List ℕ) → how-near xs x k ≡ j ∷ js → j < k + length xs
-unfolding how-near
-near-below [] x k j js h = absurd (nil≢cons h)
-near-below (y ∷ ys) x k j js h = go (same y x) h (near-below ys x (suc k) j js)
-  where
-    go : (t : Bool) → pick t (k ∷ []) (how-near ys x (suc k)) ≡ j ∷ js → (how-near ys x (suc k) ≡ j ∷ js → j < suc k + length ys) → j < k + suc (length ys)
-    go true e ih = let z : k ≡ j = cc in omega arith
-    go false e ih = omega (arith, ih e)
 
 name-readable : (x : Name) → a-name x ≡ true → Below-2^64 (length x)
 name-readable x h = omega (arith, name-short x h)

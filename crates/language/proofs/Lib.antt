@@ -5,6 +5,8 @@ pub mod BareRuns
 pub mod MeanFacts
 pub mod Readers
 pub mod FitFacts
+pub mod NearFacts
 pub mod BareSpelling
 pub mod PlaceFits
 pub mod ProgramFits
+pub mod PlaceLengths
