@@ -1,7 +1,7 @@
 -- How long an expression's spelling is when something else stands at a place of it: what is put there for what stood there. Assumes nothing.
 use mathlib.Core.Path.{_≡_, refl, ap}
 use mathlib.Core.List.{List, [], _∷_, nil≢cons}
-use Prim.Native.Nat.{ℕ, zero, suc, _+_}
+use Prim.Native.Nat.{ℕ, zero, suc, _+_, _≤_}
 use native.Mathlib.Omega.{arith}
 use lib.ListN.{length}
 use Rattle.language.specs.Expr.{Expr, num, var, bin, call, bind, choice, tell, Exprs, no-exprs, expr-and, exprs-in, parts}
@@ -48,3 +48,40 @@ put-long (k ∷ ks) a c cs d h = go (nth-expr (parts a) k) refl h (λ b. put-lon
         long (put-some a k bs (λ b. put-at b ks d)) + long c ≡ long a + long d
     go [] p h ih = absurd (nil≢cons h)
     go (b ∷ bs) p h ih = omega (arith, ih b h, part-long a k b bs (put-at b ks d) p)
+
+-- the parts together are no longer than the whole
+abbrev all-long : List Expr → ℕ
+all-long [] = 0
+all-long (e ∷ es) = long e + all-long es
+
+in-exprs : (es : Exprs) → all-long (exprs-in es) ≡ length (exprs-spelled es)
+unfolding exprs-spelled
+in-exprs no-exprs = refl
+in-exprs (expr-and e es) = omega (arith, exprs-long e es, in-exprs es)
+
+parts-short : (a : Expr) → all-long (parts a) ≤ long a
+unfolding parts
+parts-short (num n) = omega arith
+parts-short (var x) = omega arith
+parts-short (bin k a b) = omega (arith, bin-long k a b)
+parts-short (call f es) = omega (arith, call-long f es, in-exprs es)
+parts-short (bind x a b) = omega (arith, bind-long x a b)
+parts-short (choice c a b) = omega (arith, choice-long c a b)
+parts-short (tell a) = omega (arith, tell-long a)
+
+nth-short : (es : List Expr) (k : ℕ) (c : Expr) (cs : List Expr) → nth-expr es k ≡ c ∷ cs → long c ≤ all-long es
+unfolding nth-expr
+nth-short [] k c cs h = absurd (nil≢cons h)
+nth-short (e ∷ es) zero c cs h = let first : e ≡ c = cc in omega (arith, ap long first)
+nth-short (e ∷ es) (suc k) c cs h = omega (arith, nth-short es k c cs h)
+
+-- what stands at a place is no longer than the whole
+pub at-short : (ks : List ℕ) (a c : Expr) (cs : List Expr) → at-place a ks ≡ c ∷ cs → length (expr-spelled c) ≤ length (expr-spelled a)
+unfolding at-place
+at-short [] a c cs h = let whole : a ≡ c = cc in omega (arith, ap long whole)
+at-short (k ∷ ks) a c cs h = go (nth-expr (parts a) k) refl h (λ b. at-short ks b c cs)
+  where
+    go : (bs : List Expr) → nth-expr (parts a) k ≡ bs → in-some bs (λ b. at-place b ks) ≡ c ∷ cs →
+        ((b : Expr) → at-place b ks ≡ c ∷ cs → long c ≤ long b) → long c ≤ long a
+    go [] p h ih = absurd (nil≢cons h)
+    go (b ∷ bs) p h ih = omega (arith, ih b h, nth-short (parts a) k b bs p, parts-short a)

@@ -7,3 +7,5 @@ pub mod FunctionNamesMeaning
 pub mod CoreMeaning
 pub mod Says
 pub mod CaptureFacts
+pub mod PlaceSays
+pub mod CaptureChecks

@@ -3,7 +3,8 @@
 use mathlib.Core.Path.{_≡_, refl, ap, ap₂, sym, _∙_}
 use mathlib.Core.Bool.{Bool, true, false, not}
 use mathlib.Core.List.{List, [], _∷_}
-use Prim.Native.Nat.{ℕ, zero, suc}
+use Prim.Native.Nat.{ℕ, zero, suc, _+_, _*_, _≤_}
+use native.Mathlib.Omega.{arith}
 use lib.Dec.{leb}
 use lib.ListN.{length}
 use Rattle.std.proofs.shelf.Tests.{and-parts, and-from, not-true}
@@ -12,10 +13,11 @@ use Rattle.language.specs.Bytes.{Name}
 use Rattle.language.specs.Expr.{Expr, num, var, bin, call, bind, choice, tell, Exprs, no-exprs, expr-and, Fun, Program, count-exprs}
 use Rattle.language.specs.Meaning.{fun-of}
 use Rattle.language.specs.Names.{has, distinct}
+use Rattle.language.specs.Spelling.{expr-spelled, exprs-spelled}
 use Rattle.language.specs.Fits.{a-name, an-expr, all-exprs}
 use Rattle.language.proofs.NameFacts.{same-eq, same-sym, or-left-false, or-right-false}
 use Rattle.language.proofs.BareRuns.{bare-fun}
-use Rattle.language.proofs.FitFacts.{bin-fit, bind-fit, choice-fit, call-fit, exprs-fit, fit-bin, fit-bind, fit-choice, fit-call, pick-true}
+use Rattle.language.proofs.FitFacts.{bin-fit, bind-fit, choice-fit, call-fit, exprs-fit, fit-bin, fit-bind, fit-choice, fit-call, pick-true, num-long, var-long, bin-long, call-long, bind-long, choice-long, tell-long, exprs-long}
 use Rattle.model.specs.State.{set-fun}
 use Rattle.model.specs.Rename.{renamed, renamed-all, put-name}
 
@@ -84,3 +86,40 @@ unfolding put-name
 put-name-long [] i y = refl
 put-name-long (x ∷ xs) zero y = refl
 put-name-long (x ∷ xs) (suc i) y = ap suc (put-name-long xs i y)
+
+pick-long : (t : Bool) (y z : Name) → length y ≤ 32 → length (pick t y z) ≤ length z + 32
+pick-long true y z h = omega arith
+pick-long false y z h = omega arith
+
+pick-spelled : (t : Bool) (a b : Expr) (n : ℕ) → length (expr-spelled a) ≤ n → length (expr-spelled b) ≤ n → length (expr-spelled (pick t a b)) ≤ n
+pick-spelled true a b n h k = h
+pick-spelled false a b n h k = k
+
+-- a name of at most 32 bytes in place of one of any length
+mutual
+  unfolding renamed renamed-all exprs-spelled
+
+  pub renamed-long : (e : Expr) (x y : Name) → length y ≤ 32 → length (expr-spelled (renamed x y e)) ≤ 41 * length (expr-spelled e)
+  renamed-long (num n) x y h = omega (arith, num-long n)
+  renamed-long (var z) x y h = omega (arith, var-long z, var-long (pick (same x z) y z), pick-long (same x z) y z h)
+  renamed-long (bin k a b) x y h =
+      omega (arith, bin-long k a b, bin-long k (renamed x y a) (renamed x y b), renamed-long a x y h, renamed-long b x y h)
+  renamed-long (call f es) x y h = omega (arith, call-long f es, call-long f (renamed-all x y es), renamed-all-long es x y h)
+  renamed-long (bind z a b) x y h =
+      let in-b = pick-spelled (same x z) b (renamed x y b) (41 * length (expr-spelled b)) (omega arith) (renamed-long b x y h) in
+      omega (arith, bind-long z a b, bind-long z (renamed x y a) (pick (same x z) b (renamed x y b)), renamed-long a x y h, in-b)
+  renamed-long (choice c a b) x y h =
+      omega (
+        arith,
+        choice-long c a b,
+        choice-long (renamed x y c) (renamed x y a) (renamed x y b),
+        renamed-long c x y h,
+        renamed-long a x y h,
+        renamed-long b x y h,
+      )
+  renamed-long (tell a) x y h = omega (arith, tell-long a, tell-long (renamed x y a), renamed-long a x y h)
+
+  renamed-all-long : (es : Exprs) (x y : Name) → length y ≤ 32 → length (exprs-spelled (renamed-all x y es)) ≤ 41 * length (exprs-spelled es)
+  renamed-all-long no-exprs x y h = omega arith
+  renamed-all-long (expr-and e es) x y h =
+      omega (arith, exprs-long e es, exprs-long (renamed x y e) (renamed-all x y es), renamed-long e x y h, renamed-all-long es x y h)
