@@ -59,3 +59,11 @@ program-fits p h =
     let outer = and-parts (leb (length p) 1024 && every a-fun p) (leb (length (program-spelled p)) 65536) h in
     let inner = and-parts (leb (length p) 1024) (every a-fun p) (outer .0) in
     (leb-true (length p) 1024 (inner .0), inner .1, leb-true (length (program-spelled p)) 65536 (outer .1))
+
+-- the function that is found, of a program that fits
+pub found-fits : (p : Program) (x : Name) (f : Fun) (fs : List Fun) → a-program p ≡ true → fun-of p x ≡ f ∷ fs →
+    (length (f .params) ≤ 16) × (an-expr (f .body) ≡ true) × (length (expr-spelled (f .body)) ≤ 65536)
+found-fits p x f fs fit found =
+    let whole = program-fits p fit in
+    let own = fun-fits f (found-every a-fun p x f fs (whole .1) found) in
+    (own .0, own .1, omega (arith, whole .2, body-short p x f fs found))

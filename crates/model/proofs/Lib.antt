@@ -9,3 +9,4 @@ pub mod Says
 pub mod CaptureFacts
 pub mod PlaceSays
 pub mod CaptureChecks
+pub mod CaptureTurns

@@ -15,14 +15,14 @@ use Rattle.language.specs.Meaning.{fun-of}
 use Rattle.language.specs.Places.{at-place, put-at}
 use Rattle.language.specs.Names.{distinct}
 use Rattle.language.specs.Bare.{alike}
-use Rattle.language.specs.Spelling.{program-spelled}
-use Rattle.language.specs.Fits.{a-name, an-expr, a-fun, a-program}
+use Rattle.language.specs.Spelling.{expr-spelled, program-spelled}
+use Rattle.language.specs.Fits.{a-name, an-expr, a-program}
 use Rattle.language.proofs.MeanFacts.{mean-bare}
 use Rattle.language.proofs.BareRuns.{bare-fun}
 use Rattle.language.proofs.BareSpelling.{alike-bare}
 use Rattle.language.proofs.FitFacts.{bind-fit, fit-bind}
 use Rattle.language.proofs.PlaceFits.{at-fit, put-fit}
-use Rattle.language.proofs.ProgramFits.{found-every, body-short, fun-fits, program-fits}
+use Rattle.language.proofs.ProgramFits.{body-short, found-fits}
 use Rattle.model.specs.Command.{rename-bind, rename-param, a-place, fits}
 use Rattle.model.specs.State.{Plain, no, now-is, with-body, set-fun, put-in, fine}
 use Rattle.model.specs.Rename.{renamed, bind-renamed, put-name, nth-name, param-renamed}
@@ -33,8 +33,8 @@ use Rattle.model.proofs.RenameFacts.{names-of, set-bare, renamed-fit, put-name
 
 module _ (w : Plain) (x : Name) (f : Fun) (fs : List Fun) (is-fine : fine (w .now) ≡ true) (fit : a-program (w .now) ≡ true)
     (found : fun-of (w .now) x ≡ f ∷ fs) where
-  own-fit : (length (f .params) ≤ 16) × (an-expr (f .body) ≡ true)
-  own-fit = fun-fits f (found-every a-fun (w .now) x f fs (program-fits (w .now) fit .1) found)
+  own-fit : (length (f .params) ≤ 16) × (an-expr (f .body) ≡ true) × (length (expr-spelled (f .body)) ≤ 65536)
+  own-fit = found-fits (w .now) x f fs fit found
 
   found-own : fun-of (w .now) (f .name) ≡ f ∷ fs
   found-own = ap (fun-of (w .now)) (found-name (w .now) x f fs found) ∙ found
@@ -46,10 +46,9 @@ module _ (w : Plain) (x : Name) (f : Fun) (fs : List Fun) (is-fine : fine (w .no
     where
       bodies : bare-fun g .body ≡ bare-fun f .body
       bodies =
-          let old-short = body-short (w .now) x f fs found in
           let new-short = body-short (set-fun (w .now) (f .name) g) (f .name) g [] (set-here (w .now) (f .name) f fs g named found-own) in
           sym (alike-bare (f .params) (g .params) (f .body) (g .body) (own-fit .1) fit-body (own-fit .0) (omega (arith, own-fit))
-          (omega (arith, old-short, program-fits (w .now) fit)) (omega (arith, new-short, small)) same-bare)
+          (omega (arith, own-fit)) (omega (arith, new-short, small)) same-bare)
 
   -- a function that is alike without its names, put in place
   set-kept : (g : Fun) → g .name ≡ f .name → length (g .params) ≡ length (f .params) → an-expr (g .body) ≡ true →
