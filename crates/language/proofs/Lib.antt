@@ -7,3 +7,14 @@ pub mod HeadFacts
 pub mod NodeFacts
 pub mod ExprFacts
 pub mod ProgramFacts
+pub mod PlaceFacts
+pub mod FreeFacts
+pub mod BareRuns
+pub mod MeanFacts
+pub mod Readers
+pub mod FitFacts
+pub mod NearFacts
+pub mod BareSpelling
+pub mod PlaceFits
+pub mod ProgramFits
+pub mod PlaceLengths

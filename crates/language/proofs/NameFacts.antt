@@ -1,12 +1,11 @@
 -- Names that are the same, and which names a row has. Assumes nothing.
 use mathlib.Core.Path.{_≡_, refl, ap, ap₂, sym, _∙_}
 use mathlib.Core.Bool.{Bool, true, false, _&&_, not}
-use mathlib.Core.List.{List, [], _∷_, _++_, append-nil}
-use Prim.Native.Nat.{ℕ}
+use mathlib.Core.List.{List, [], _∷_, _++_}
 use lib.Dec.{eqb}
 use borrow.Author.Tests.{clash, eqb-true, eq-eqb}
 use Rattle.std.proofs.shelf.Tests.{and-parts, and-from}
-use Rattle.language.specs.Basics.{pick, or, any, those, same}
+use Rattle.language.specs.Basics.{pick, or, same}
 use Rattle.language.specs.Bytes.{Name}
 use Rattle.language.specs.Names.{has, joined, less}
 
@@ -39,6 +38,14 @@ or-assoc false b c = refl
 pub or-false : (a : Bool) → or a false ≡ a
 or-false true = refl
 or-false false = refl
+
+pub or-left-true : (a b : Bool) → a ≡ true → or a b ≡ true
+or-left-true true b h = refl
+or-left-true false b h = absurd (clash h)
+
+pub or-right-true : (a b : Bool) → b ≡ true → or a b ≡ true
+or-right-true true b h = refl
+or-right-true false b h = h
 
 pub or-left-false : (a b : Bool) → or a b ≡ false → a ≡ false
 or-left-false true b h = h

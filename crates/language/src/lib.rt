@@ -1,1 +1,21 @@
-// The language: definitions in specs/, and what is true of it.
+// The language: definitions in specs/, and what is true of it. Each function below has a theorem for its contract.
+
+ghost use Rattle.language.specs.Statements.{Alike-same, Free-matter, There-again};
+
+pub fn places_hold() -> u8
+    ensures { λ _. ⌜ There-again ⌝ }
+{
+    0
+}
+
+pub fn only_free_names_matter() -> u8
+    ensures { λ _. ⌜ Free-matter ⌝ }
+{
+    0
+}
+
+pub fn names_do_not_matter() -> u8
+    ensures { λ _. ⌜ Alike-same ⌝ }
+{
+    0
+}

@@ -1,0 +1,12 @@
+pub mod SetFacts
+pub mod Kept
+pub mod RenameFacts
+pub mod RenameMeaning
+pub mod FunctionNamesFacts
+pub mod FunctionNamesMeaning
+pub mod CoreMeaning
+pub mod Says
+pub mod CaptureFacts
+pub mod PlaceSays
+pub mod CaptureChecks
+pub mod CaptureTurns
