@@ -1,1 +1,2 @@
 pub mod NameFacts
+pub mod Depth
