@@ -1,2 +1,3 @@
 pub mod NameFacts
 pub mod Depth
+pub mod Reach
