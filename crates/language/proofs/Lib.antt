@@ -1,3 +1,7 @@
 pub mod NameFacts
+pub mod PlaceFacts
+pub mod FreeFacts
+pub mod BareRuns
+pub mod MeanFacts
 pub mod Depth
 pub mod Reach

@@ -40,6 +40,14 @@ pub or-false : (a : Bool) → or a false ≡ a
 or-false true = refl
 or-false false = refl
 
+pub or-left-true : (a b : Bool) → a ≡ true → or a b ≡ true
+or-left-true true b h = refl
+or-left-true false b h = absurd (clash h)
+
+pub or-right-true : (a b : Bool) → b ≡ true → or a b ≡ true
+or-right-true true b h = refl
+or-right-true false b h = h
+
 pub or-left-false : (a b : Bool) → or a b ≡ false → a ≡ false
 or-left-false true b h = h
 or-left-false false b h = refl
