@@ -47,6 +47,9 @@ later c G r = record { from = suc (r .from); under = go }
     go zero h = absurd (omega arith)
     go (suc k) h = r .under k (omega arith)
 
+pub sooner : (c : Came) (G : ℕ → Came) → Reach c G → Reach c (λ m. G (suc m))
+sooner c G r = record { from = r .from; under = λ k h. r .under (suc k) (omega arith) }
+
 pub reach-on : (a : Came) (G H : ℕ → Came) → Reach a G → ((n : ℕ) → Reach (G n) H) → Reach a H
 reach-on a G H r s =
     record { from = s (r .from) .from; under = λ k h. under-trans a (G (r .from)) (H k) (r .under (r .from) (omega arith)) (s (r .from) .under k h) }
@@ -126,6 +129,11 @@ run-self n p bs e = record { from = n; under = λ k h. eval-up n k p bs e h }
 pub run-on : (n : ℕ) (p q r : Program) (as₁ bs cs : List Bound) (a b c : Expr) → Run n p as₁ a q bs b → ((m : ℕ) → Run m q bs b r cs c) →
     Run n p as₁ a r cs c
 run-on n p q r as₁ bs cs a b c s t = reach-on (eval n p as₁ a) (λ m. eval m q bs b) (λ m. eval m r cs c) s t
+
+-- what a deeper run reaches
+pub run-down : (n m : ℕ) (p : Program) (bs : List Bound) (e : Expr) (G : ℕ → Came) → n ≤ m → Reach (eval m p bs e) G → Reach (eval n p bs e) G
+run-down n m p bs e G h r =
+    record { from = r .from; under = λ k l. under-trans (eval n p bs e) (eval m p bs e) (G k) (eval-up n m p bs e h) (r .under k l) }
 
 pub runs-none : (n : ℕ) (p q : Program) (bs cs : List Bound) → Runs n p bs no-exprs q cs no-exprs
 unfolding eval-all

@@ -1,2 +1,4 @@
 pub mod SetFacts
 pub mod PlaceMeaning
+pub mod KeptMeaning
+pub mod InvertMeaning
