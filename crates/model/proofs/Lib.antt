@@ -2,3 +2,4 @@ pub mod SetFacts
 pub mod PlaceMeaning
 pub mod KeptMeaning
 pub mod InvertMeaning
+pub mod QuietFacts
