@@ -9,7 +9,7 @@ use lib.ListN.{length}
 use Rattle.language.specs.Basics.{pick, each, same}
 use Rattle.language.specs.Bytes.{Name}
 use Rattle.language.specs.Expr.{Expr, num, var, bin, call, bind, choice, tell, Exprs, no-exprs, expr-and, Fun, Program}
-use Rattle.language.specs.Meaning.{Came, came, wrong, deep, Bound, look, fun-of, small, reckon, after-telling, then, looked, binds, Cames, cames, wrongs, deeps, more-cames, and-cames, Ev, eval-all, called, step, eval, apply}
+use Rattle.language.specs.Meaning.{Came, came, wrong, deep, look, fun-of, small, reckon, after-telling, then, looked, binds, Cames, cames, wrongs, deeps, more-cames, and-cames, Ev, eval-all, called, step, eval, apply}
 use Rattle.language.specs.Bare.{Bare, b-num, b-near, b-far, b-bin, b-call, b-bind, b-choice, b-tell, Bares, no-bares, bare-and, how-near, near-or-far, bare, bare-all}
 use Rattle.language.specs.Statements.{values-in, Alike-same}
 

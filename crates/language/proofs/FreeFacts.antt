@@ -9,7 +9,7 @@ use borrow.Author.Tests.{clash}
 use Rattle.language.specs.Basics.{pick, same}
 use Rattle.language.specs.Bytes.{Name}
 use Rattle.language.specs.Expr.{Expr, num, var, bin, call, bind, choice, tell, Exprs, no-exprs, expr-and, Program}
-use Rattle.language.specs.Meaning.{Came, came, Bound, look, fun-of, reckon, then, looked, more-cames, and-cames, Ev, eval-all, called, step, eval}
+use Rattle.language.specs.Meaning.{came, Bound, look, fun-of, reckon, then, looked, more-cames, and-cames, Ev, eval-all, called, step, eval}
 use Rattle.language.specs.Names.{has, joined, less, free, free-all}
 use Rattle.language.specs.Statements.{Free-matter}
 use Rattle.language.proofs.NameFacts.{same-refl, same-eq, or-left-true, or-right-true, has-joined, has-less}

@@ -5,3 +5,4 @@ pub mod BareRuns
 pub mod MeanFacts
 pub mod Depth
 pub mod Reach
+pub mod AlikeRuns

@@ -1,12 +1,11 @@
 -- Names that are the same, and which names a row has. Assumes nothing.
 use mathlib.Core.Path.{_≡_, refl, ap, ap₂, sym, _∙_}
 use mathlib.Core.Bool.{Bool, true, false, _&&_, not}
-use mathlib.Core.List.{List, [], _∷_, _++_, append-nil}
-use Prim.Native.Nat.{ℕ}
+use mathlib.Core.List.{List, [], _∷_, _++_}
 use lib.Dec.{eqb}
 use borrow.Author.Tests.{clash, eqb-true, eq-eqb}
 use Rattle.std.proofs.shelf.Tests.{and-parts, and-from}
-use Rattle.language.specs.Basics.{pick, or, any, those, same}
+use Rattle.language.specs.Basics.{pick, or, same}
 use Rattle.language.specs.Bytes.{Name}
 use Rattle.language.specs.Names.{has, joined, less}
 

@@ -1,18 +1,18 @@
 -- What one run comes to another does, once it may go deep enough: `Run`. It holds of whole expressions if it holds of their parts, and of two
 -- programs if it holds of their functions' bodies in the second of them.
-use mathlib.Core.Path.{_≡_, refl, ap, sym, _∙_}
+use mathlib.Core.Path.{_≡_, refl}
 use mathlib.Core.Bool.{Bool, true, false}
-use mathlib.Core.List.{List, [], _∷_, _++_}
+use mathlib.Core.List.{List, [], _∷_}
 use Prim.Native.Nat.{ℕ, zero, suc, _≤_, max}
 use native.Mathlib.Omega.{arith}
 use lib.Dec.{eqb}
 use lib.ListN.{length}
 use borrow.Author.Tests.{eqb-true}
-use Rattle.language.specs.Basics.{pick, same}
+use Rattle.language.specs.Basics.{pick}
 use Rattle.language.specs.Bytes.{Name}
 use Rattle.language.specs.Expr.{Expr, num, var, bin, call, bind, choice, tell, Exprs, no-exprs, expr-and, Fun, Program, main}
-use Rattle.language.specs.Meaning.{Came, came, wrong, deep, Bound, fun-of, small, reckon, after-telling, then, looked, look, binds, Cames, cames, wrongs, deeps, more-cames, and-cames, Ev, eval-all, called, step, eval, apply}
-use Rattle.language.specs.Equivalence.{is-deep, As-deep}
+use Rattle.language.specs.Meaning.{Came, came, wrong, deep, Bound, fun-of, small, reckon, after-telling, then, looked, look, binds, Cames, cames, wrongs, deeps, more-cames, and-cames, eval-all, called, step, eval, apply}
+use Rattle.language.specs.Equivalence.{As-deep}
 use Rattle.language.proofs.Depth.{Under, Unders, under-refl, unders-refl, under-trans, under-same, after-under, more-under, eval-up}
 
 -- from some depth on, what c came to

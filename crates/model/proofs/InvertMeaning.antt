@@ -1,8 +1,8 @@
 -- An if turned the other way round means the same: its condition is told from 0 once more, and its arms change places.
 use mathlib.Core.Path.{_≡_, refl, ap, sym, _∙_, fun-ext, subst}
 use mathlib.Core.Bool.{Bool, true, false}
-use mathlib.Core.List.{List, [], _∷_, _++_, append-nil}
-use Prim.Native.Nat.{ℕ, zero, suc}
+use mathlib.Core.List.{List, [], _∷_, append-nil}
+use Prim.Native.Nat.{ℕ, suc}
 use native.Mathlib.Omega.{arith}
 use lib.Dec.{eqb}
 use Rattle.language.specs.Basics.{pick}
@@ -10,13 +10,12 @@ use Rattle.language.specs.Bytes.{Name}
 use Rattle.language.specs.Expr.{Expr, num, var, bin, call, bind, choice, tell, Fun, Program}
 use Rattle.language.specs.Meaning.{Came, came, wrong, deep, Bound, fun-of, truth, after-telling, then, step, eval}
 use Rattle.language.specs.Places.{at-place}
-use Rattle.language.proofs.Reach.{Reach, Run, later, sooner, then-reach, pick-reach, run-self, run-down, run-zero}
+use Rattle.language.proofs.Reach.{Reach, Run, later, sooner, then-reach, pick-reach, run-self, run-down}
 use Rattle.model.specs.Command.{turn-cond}
 use Rattle.model.specs.State.{Plain}
-use Rattle.model.specs.Extract.{given-at}
 use Rattle.model.specs.Invert.{cond-turned}
 use Rattle.model.specs.Model.{turn}
-use Rattle.model.proofs.KeptMeaning.{Kept, kept-refused, kept-at, kept-put, Alike-runs}
+use Rattle.model.proofs.KeptMeaning.{Kept, kept-refused, kept-at, kept-put}
 
 then-value : (c : Came) (g : ℕ → ℕ) (f : ℕ → Came) → then (then c (λ v. came (g v) [])) f ≡ then c (λ v. f (g v))
 unfolding then after-telling
@@ -80,5 +79,5 @@ cond-mean w x ks = kept-at w x ks (λ f e. cond-turned w f ks e) go
     go f fs (call g as₁) es found stands = kept-refused w 6
     go f fs (bind y a b) es found stands = kept-refused w 6
     go f fs (choice c a b) es found stands =
-        kept-put w f fs ks (choice c a b) es (choice (bin 4 c (num 0)) b a) found stands (λ r n ds g. (turn-forth r n ds c a b, turn-back r n ds c a b))
+        kept-put w f fs ks (choice c a b) es (choice (bin 4 c (num 0)) b a) found stands (λ r ds g n. (turn-forth r n ds c a b, turn-back r n ds c a b))
     go f fs (tell a) es found stands = kept-refused w 6

@@ -1,5 +1,5 @@
 -- How a turn ends that leaves what the program means: refused, or with a program that means the same.
-use mathlib.Core.Path.{_≡_, refl, ap, sym, _∙_, subst}
+use mathlib.Core.Path.{_≡_, refl, ap, _∙_}
 use mathlib.Core.Bool.{Bool, true, false, _&&_}
 use mathlib.Core.List.{List, [], _∷_}
 use Prim.Native.Nat.{ℕ}
@@ -13,7 +13,7 @@ use Rattle.language.specs.Places.{at-place}
 use Rattle.language.specs.Spelling.{program-spelled}
 use Rattle.language.specs.Equivalence.{Mean-same}
 use Rattle.language.proofs.MeanFacts.{mean-refl}
-use Rattle.language.proofs.Reach.{Run}
+use Rattle.language.proofs.AlikeRuns.{Alike-run}
 use Rattle.model.specs.State.{Plain, Turn, no, now-is, at-first-fun, at-fun, of-some, at-expr, put-in}
 use Rattle.model.specs.Extract.{given-at}
 use Rattle.model.proofs.SetFacts.{found-name}
@@ -51,10 +51,10 @@ kept-at w x ks h k = in-fun (fun-of (w .now) x) refl
         in-expr f fs (ap (fun-of (w .now)) (found-name (w .now) x f fs found) ∙ found) (at-place (f .body) ks) refl
 
 -- the two run alike in every program, where these names are given
-abbrev pub Alike-runs : List Name → Expr → Expr → Type 0
-Alike-runs xs a b = (r : Program) (n : ℕ) (ds : List Bound) → Given xs ds → Run n r ds a r ds b × Run n r ds b r ds a
+abbrev pub Alike-given : List Name → Expr → Expr → Type 0
+Alike-given xs a b = (r : Program) (ds : List Bound) → Given xs ds → Alike-run r ds a ds b
 
 pub kept-put : (w : Plain) (f : Fun) (fs : List Fun) (ks : List ℕ) (old : Expr) (os : List Expr) (new : Expr) → fun-of (w .now) (f .name) ≡ f ∷ fs →
-    at-place (f .body) ks ≡ old ∷ os → Alike-runs (given-at (f .params) (f .body) ks) old new → Kept w (put-in w f ks new)
+    at-place (f .body) ks ≡ old ∷ os → Alike-given (given-at (f .params) (f .body) ks) old new → Kept w (put-in w f ks new)
 kept-put w f fs ks old os new found stands alike =
-    kept-now w _ (place-mean (w .now) f fs found ks old os new stands (λ n ds g. alike _ n ds g .0) (λ n ds g. alike (w .now) n ds g .1))
+    kept-now w _ (place-mean (w .now) f fs found ks old os new stands (λ n ds g. alike _ ds g n .0) (λ n ds g. alike (w .now) ds g n .1))

@@ -8,12 +8,12 @@ use lib.ListN.{length}
 use borrow.Author.Tests.{clash}
 use Rattle.language.specs.Basics.{pick, or, same}
 use Rattle.language.specs.Bytes.{Name}
-use Rattle.language.specs.Expr.{Expr, num, var, bin, call, bind, choice, tell, Exprs, no-exprs, expr-and, Fun, Program, exprs-in, parts}
-use Rattle.language.specs.Meaning.{Bound, look, fun-of, binds, eval}
+use Rattle.language.specs.Expr.{Expr, num, var, bin, call, bind, choice, tell, Exprs, no-exprs, expr-and, Fun, Program, parts}
+use Rattle.language.specs.Meaning.{Bound, look, fun-of, binds}
 use Rattle.language.specs.Places.{nth-expr, at-place, put-nth, with-part, put-some, put-at}
 use Rattle.language.specs.Names.{has}
-use Rattle.language.specs.Equivalence.{As-deep, Mean-same}
-use Rattle.language.proofs.NameFacts.{same-refl, same-eq, same-sym}
+use Rattle.language.specs.Equivalence.{Mean-same}
+use Rattle.language.proofs.NameFacts.{same-eq, same-sym}
 use Rattle.language.proofs.PlaceFacts.{put-same}
 use Rattle.language.proofs.Reach.{Run, Runs, Paired, Bodies, run-zero, run-self, run-bin, run-bind, run-choice, run-tell, run-call-self, runs-none, runs-and, runs-all, self-paired, bodies-as-deep}
 use Rattle.model.specs.State.{with-body, set-fun}

@@ -1,8 +1,8 @@
 -- What is quiet comes to a number and tells nothing, in every program where its names are given: part by part.
-use mathlib.Core.Path.{_≡_, refl, ap, sym, _∙_, subst}
+use mathlib.Core.Path.{_≡_, refl, ap, sym, subst}
 use mathlib.Core.Bool.{Bool, true, false, _&&_}
 use mathlib.Core.List.{List, [], _∷_}
-use Prim.Native.Nat.{ℕ, zero, suc, _≤_, _-_, max}
+use Prim.Native.Nat.{ℕ, suc, _≤_, _-_, max}
 use native.Mathlib.Omega.{arith}
 use lib.Dec.{eqb, ltb, leb}
 use lib.ListN.{length}
@@ -11,9 +11,9 @@ use Rattle.std.proofs.shelf.Tests.{and-parts, ne-eqb}
 use Rattle.language.specs.Basics.{pick, or}
 use Rattle.language.specs.Bytes.{Name}
 use Rattle.language.specs.Expr.{limit, Expr, num, var, bin, call, bind, choice, tell, Program}
-use Rattle.language.specs.Meaning.{Came, came, wrong, deep, Bound, look, small, truth, reckon, after-telling, then, looked, step, eval}
+use Rattle.language.specs.Meaning.{came, wrong, Bound, look, truth, reckon, after-telling, then, looked, step, eval}
 use Rattle.language.specs.Statements.{values-in}
-use Rattle.language.proofs.Depth.{Under, under-trans, under-same, eval-up}
+use Rattle.language.proofs.Depth.{Under, under-same, eval-up}
 use Rattle.language.proofs.Reach.{Reach, still, later, then-reach, pick-reach}
 use Rattle.model.specs.Inline.{quiet}
 use Rattle.model.specs.Statements.{Quiet-quiet}
