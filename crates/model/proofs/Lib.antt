@@ -3,3 +3,5 @@ pub mod PlaceMeaning
 pub mod KeptMeaning
 pub mod InvertMeaning
 pub mod QuietFacts
+pub mod PutForRuns
+pub mod InlineMeaning

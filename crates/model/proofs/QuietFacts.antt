@@ -77,7 +77,7 @@ unfolding eval step
 num-ends r ds n h =
     later (came n []) (λ m. eval m r ds (num n)) (subst (λ c. Reach (came n []) (λ m. c)) (sym (pick-left (ltb n limit) (came n []) (wrong 5 []) h)) (still (came n [])))
 
-var-ends : (r : Program) (ds : List Bound) (x : Name) (v : ℕ) → look ds x ≡ v ∷ [] → Ends r ds (var x) v
+pub var-ends : (r : Program) (ds : List Bound) (x : Name) (v : ℕ) → look ds x ≡ v ∷ [] → Ends r ds (var x) v
 unfolding eval step looked
 var-ends r ds x v h =
     later (came v []) (λ m. eval m r ds (var x)) (subst (λ vs. Reach (came v []) (λ m. looked vs)) (sym h) (still (came v [])))
