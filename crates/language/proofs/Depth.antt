@@ -1,7 +1,7 @@
 -- What a run came to, it comes to however deep it may go: each step of a run keeps `Under`, so by induction on the depth a run does.
 use mathlib.Core.Path.{_≡_, refl, ap, sym}
 use mathlib.Core.Bool.{Bool, true, false}
-use mathlib.Core.List.{List, [], _∷_}
+use mathlib.Core.List.{List, [], _∷_, _++_, append-assoc}
 use Prim.Native.Nat.{ℕ, zero, suc, _+_, _≤_}
 use native.Mathlib.Omega.{arith}
 use lib.Dec.{eqb}
@@ -44,6 +44,18 @@ unfolding is-deep
 under-same (came v ts) b h d = h
 under-same (wrong k ts) b h d = h
 under-same deep b h d = absurd (clash (sym d))
+
+pub after-none : (c : Came) → after-telling [] c ≡ c
+unfolding after-telling
+after-none (came v ts) = refl
+after-none (wrong k ts) = refl
+after-none deep = refl
+
+pub after-twice : (ts us : List ℕ) (c : Came) → after-telling (ts ++ us) c ≡ after-telling ts (after-telling us c)
+unfolding after-telling
+after-twice ts us (came v ws) = ap (came v) (append-assoc ts us ws)
+after-twice ts us (wrong k ws) = ap (wrong k) (append-assoc ts us ws)
+after-twice ts us deep = refl
 
 pub after-under : (ts : List ℕ) (a b : Came) → Under a b → Under (after-telling ts a) (after-telling ts b)
 unfolding after-telling

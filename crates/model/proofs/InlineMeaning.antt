@@ -1,16 +1,16 @@
 -- A let put in place leaves what the program means: what it gives is quiet, so it ends with the value of the let's name.
-use mathlib.Core.Path.{_≡_, refl, subst}
+use mathlib.Core.Path.{_≡_, subst}
 use mathlib.Core.Bool.{true}
 use mathlib.Core.List.{List, [], _∷_}
 use Prim.Native.Nat.{ℕ, zero, suc}
 use Rattle.language.specs.Basics.{same}
 use Rattle.language.specs.Bytes.{Name}
 use Rattle.language.specs.Expr.{Expr, num, var, bin, call, bind, choice, tell, Fun, Program}
-use Rattle.language.specs.Meaning.{Came, came, wrong, deep, Bound, look, fun-of, after-telling, then, step, eval}
+use Rattle.language.specs.Meaning.{came, Bound, look, fun-of, then, step, eval}
 use Rattle.language.specs.Places.{at-place}
 use Rattle.language.specs.Names.{free}
 use Rattle.language.proofs.NameFacts.{same-refl}
-use Rattle.language.proofs.Depth.{Under, under-refl, under-trans, then-under, eval-up}
+use Rattle.language.proofs.Depth.{after-none, Under, under-refl, under-trans, then-under, eval-up}
 use Rattle.language.proofs.Reach.{Reach, Run, later, then-reach, run-self, run-zero}
 use Rattle.language.proofs.AlikeRuns.{Alike-run, alike-on}
 use Rattle.model.specs.Command.{inline-bind}
@@ -23,12 +23,6 @@ use Rattle.model.proofs.PlaceMeaning.{Given}
 use Rattle.model.proofs.KeptMeaning.{Kept, kept-refused, kept-pick, kept-at, kept-put}
 use Rattle.model.proofs.QuietFacts.{Ends, ends-under, quiet-ends}
 use Rattle.model.proofs.PutForRuns.{First, first-map, Stands, put-run}
-
-after-none : (c : Came) → after-telling [] c ≡ c
-unfolding after-telling
-after-none (came v ts) = refl
-after-none (wrong k ts) = refl
-after-none deep = refl
 
 -- a let of what ends runs as its expression does where the name has that number
 module _ (r : Program) (ds : List Bound) (x : Name) (a b : Expr) (v : ℕ) (end : Ends r ds a v) where

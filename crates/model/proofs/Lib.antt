@@ -5,3 +5,5 @@ pub mod InvertMeaning
 pub mod QuietFacts
 pub mod PutForRuns
 pub mod InlineMeaning
+pub mod LetsRuns
+pub mod InlineCallMeaning

@@ -33,6 +33,9 @@ pub first-map : {A : Type 0} (P Q : A → Type 0) → ((a : A) → P a → Q a) 
 first-map P Q h [] p = tt
 first-map P Q h (a ∷ as₁) p = h a p
 
+pub first-at : {A : Type 0} (P : A → Type 0) (l : List A) (a : A) (as₁ : List A) → l ≡ a ∷ as₁ → First P l → P a
+first-at P l a as₁ e h = subst (First P) e h
+
 pub both-first : (P Q R : Expr → Type 0) (f : Expr → Expr → Expr) → ((a b : Expr) → P a → Q b → R (f a b)) → (l m : List Expr) → First P l → First Q m →
     First R (both-of l m f)
 both-first P Q R f h [] m p q = tt
