@@ -3,6 +3,13 @@ pub mod PlaceFacts
 pub mod FreeFacts
 pub mod BareRuns
 pub mod MeanFacts
+pub mod Readers
+pub mod FitFacts
+pub mod NearFacts
+pub mod BareSpelling
+pub mod PlaceFits
+pub mod ProgramFits
+pub mod PlaceLengths
 pub mod Depth
 pub mod Reach
 pub mod AlikeRuns

@@ -17,14 +17,16 @@ use Rattle.language.specs.Places.{at-place, put-at}
 use Rattle.language.specs.Names.{has, free, distinct}
 use Rattle.language.specs.Equivalence.{Mean-same}
 use Rattle.language.proofs.NameFacts.{same-eq}
+use Rattle.language.proofs.ProgramFits.{found-every}
 use Rattle.language.proofs.Reach.{Run, run-zero, run-self}
 use Rattle.model.specs.Command.{inline-call}
 use Rattle.model.specs.State.{Plain, no, with-body, set-fun, fine}
 use Rattle.model.specs.Inline.{binds-of, put-if, inlined-by, call-inlined}
 use Rattle.model.specs.Model.{turn}
-use Rattle.model.proofs.SetFacts.{found-every, set-other, set-here}
+use Rattle.model.proofs.SetFacts.{set-other, set-here}
 use Rattle.model.proofs.PlaceMeaning.{body-run, run-body, place-mean}
-use Rattle.model.proofs.KeptMeaning.{Kept, kept-refused, kept-pick, kept-now, kept-at}
+use Rattle.model.proofs.Kept.{Kept, kept-refused, kept-pick, kept-now}
+use Rattle.model.proofs.KeptPlace.{kept-at}
 use Rattle.model.proofs.PutForRuns.{first-at}
 use Rattle.model.proofs.LetsRuns.{call-forth, call-back}
 
@@ -116,7 +118,7 @@ kept-lets : (w : Plain) (f : Fun) (fs : List Fun) → fun-of (w .now) (f .name) 
     binds-of (h .params) (exprs-in es) (h .body) ≡ l → Kept w (put-if w f ks l)
 kept-lets w f fs found g h hs found-called ks es os stands as-many apart closed [] e = kept-refused w 5
 kept-lets w f fs found g h hs found-called ks es os stands as-many apart closed (new ∷ news) e =
-    kept-now w _ (call-place-mean (w .now) f fs found g h hs found-called ks es os stands new news e as-many apart closed)
+    kept-now w _ (λ small. call-place-mean (w .now) f fs found g h hs found-called ks es os stands new news e as-many apart closed)
 
 kept-inlined : (w : Plain) → fine (w .now) ≡ true → (f : Fun) (fs : List Fun) → fun-of (w .now) (f .name) ≡ f ∷ fs → (g : Name) (ks : List ℕ) (es : Exprs)
     (os : List Expr) → at-place (f .body) ks ≡ call g es ∷ os → (hs : List Fun) → fun-of (w .now) g ≡ hs → Kept w (inlined-by w f ks es hs)

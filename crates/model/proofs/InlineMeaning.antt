@@ -20,7 +20,8 @@ use Rattle.model.specs.Inline.{quiet, put-for, put-if, bind-inlined}
 use Rattle.model.specs.Model.{turn}
 use Rattle.model.proofs.SetFacts.{pick-left, pick-right}
 use Rattle.model.proofs.PlaceMeaning.{Given}
-use Rattle.model.proofs.KeptMeaning.{Kept, kept-refused, kept-pick, kept-at, kept-put}
+use Rattle.model.proofs.Kept.{Kept, kept-refused, kept-pick}
+use Rattle.model.proofs.KeptPlace.{kept-at, kept-put}
 use Rattle.model.proofs.QuietFacts.{Ends, ends-under, quiet-ends}
 use Rattle.model.proofs.PutForRuns.{First, first-map, Stands, put-run}
 

@@ -15,7 +15,8 @@ use Rattle.model.specs.Command.{turn-cond}
 use Rattle.model.specs.State.{Plain}
 use Rattle.model.specs.Invert.{cond-turned}
 use Rattle.model.specs.Model.{turn}
-use Rattle.model.proofs.KeptMeaning.{Kept, kept-refused, kept-at, kept-put}
+use Rattle.model.proofs.Kept.{Kept, kept-refused}
+use Rattle.model.proofs.KeptPlace.{kept-at, kept-put}
 
 then-value : (c : Came) (g : ℕ → ℕ) (f : ℕ → Came) → then (then c (λ v. came (g v) [])) f ≡ then c (λ v. f (g v))
 unfolding then after-telling

@@ -1,6 +1,14 @@
 pub mod SetFacts
+pub mod Kept
+pub mod RenameFacts
+pub mod RenameMeaning
+pub mod FunctionNamesFacts
+pub mod FunctionNamesMeaning
+pub mod CoreMeaning
+pub mod Says
+pub mod CaptureFacts
 pub mod PlaceMeaning
-pub mod KeptMeaning
+pub mod KeptPlace
 pub mod InvertMeaning
 pub mod QuietFacts
 pub mod PutForRuns

@@ -2,8 +2,7 @@
 use mathlib.Core.Path.{_≡_, refl, ap, sym, _∙_}
 use mathlib.Core.Bool.{Bool, true, false}
 use mathlib.Core.List.{List, [], _∷_, nil≢cons}
-use Rattle.std.proofs.shelf.Tests.{and-parts}
-use Rattle.language.specs.Basics.{pick, every, same}
+use Rattle.language.specs.Basics.{pick, same}
 use Rattle.language.specs.Bytes.{Name}
 use Rattle.language.specs.Expr.{Fun, Program}
 use Rattle.language.specs.Meaning.{fun-of}
@@ -24,16 +23,6 @@ found-name (g ∷ gs) x f fs h = go (same (g .name) x) refl h (found-name gs x f
     go : (t : Bool) → same (g .name) x ≡ t → pick t (g ∷ []) (fun-of gs x) ≡ f ∷ fs → (fun-of gs x ≡ f ∷ fs → f .name ≡ x) → f .name ≡ x
     go true e h ih = let same-fun : g ≡ f = cc in ap (λ k. k .name) (sym same-fun) ∙ same-eq (g .name) x e
     go false e h ih = ih h
-
-pub found-every : (P : Fun → Bool) (p : Program) (x : Name) (f : Fun) (fs : List Fun) → every P p ≡ true → fun-of p x ≡ f ∷ fs → P f ≡ true
-unfolding fun-of
-found-every P [] x f fs h e = absurd (nil≢cons e)
-found-every P (g ∷ gs) x f fs h e =
-    go (same (g .name) x) e (found-every P gs x f fs (and-parts (P g) (every P gs) h .1))
-  where
-    go : (t : Bool) → pick t (g ∷ []) (fun-of gs x) ≡ f ∷ fs → (fun-of gs x ≡ f ∷ fs → P f ≡ true) → P f ≡ true
-    go true e ih = let same-fun : g ≡ f = cc in ap P (sym same-fun) ∙ and-parts (P g) (every P gs) h .0
-    go false e ih = ih e
 
 pub set-other : (p : Program) (x y : Name) (g : Fun) → g .name ≡ x → same x y ≡ false → fun-of (set-fun p x g) y ≡ fun-of p y
 unfolding fun-of

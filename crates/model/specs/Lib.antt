@@ -2,6 +2,7 @@ pub mod Command
 pub mod Known
 pub mod State
 pub mod Rename
+pub mod Capture
 pub mod FunctionNames
 pub mod Extract
 pub mod Inline
