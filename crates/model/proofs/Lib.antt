@@ -15,3 +15,4 @@ pub mod PutForRuns
 pub mod InlineMeaning
 pub mod LetsRuns
 pub mod InlineCallMeaning
+pub mod ExtractMeaning
