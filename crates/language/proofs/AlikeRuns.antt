@@ -1,4 +1,5 @@
 -- Expressions that run alike in one program: each comes to what the other does. It holds of whole expressions if it holds of their parts.
+-- Assumes nothing.
 use mathlib.Core.Path.{_≡_, sym, subst, fun-ext}
 use mathlib.Core.List.{List, _∷_}
 use Prim.Native.Nat.{ℕ, zero, suc}

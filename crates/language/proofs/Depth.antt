@@ -1,4 +1,5 @@
 -- What a run came to, it comes to however deep it may go: each step of a run keeps `Under`, so by induction on the depth a run does.
+-- Assumes nothing.
 use mathlib.Core.Path.{_≡_, refl, ap, sym}
 use mathlib.Core.Bool.{Bool, true, false}
 use mathlib.Core.List.{List, [], _∷_, _++_, append-assoc}

@@ -1,5 +1,5 @@
 -- What one run comes to another does, once it may go deep enough: `Run`. It holds of whole expressions if it holds of their parts, and of two
--- programs if it holds of their functions' bodies in the second of them.
+-- programs if it holds of their functions' bodies in the second of them. Assumes nothing.
 use mathlib.Core.Path.{_≡_, refl}
 use mathlib.Core.Bool.{Bool, true, false}
 use mathlib.Core.List.{List, [], _∷_}

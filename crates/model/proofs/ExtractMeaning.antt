@@ -1,5 +1,5 @@
 -- What stands at a place made a function leaves what the program means. The new function is added first, which nothing calls yet; then its call is
--- put at the place, and runs as what stood there does wherever the names are given.
+-- put at the place, and runs as what stood there does wherever the names are given. Assumes nothing.
 use mathlib.Core.Path.{_≡_, refl, ap, ap₂, sym, _∙_, subst, fun-ext}
 use mathlib.Core.Bool.{Bool, true, false, not}
 use mathlib.Core.List.{List, [], _∷_, _++_}
@@ -16,7 +16,7 @@ use Rattle.language.specs.Meaning.{wrong, Bound, look, fun-of, looked, binds, c
 use Rattle.language.specs.Places.{at-place, put-at}
 use Rattle.language.specs.Names.{has, free}
 use Rattle.language.specs.Equivalence.{Mean-same}
-use Rattle.language.proofs.NameFacts.{same-refl, same-eq, same-sym, or-left-true, or-right-true, or-left-false, or-right-false}
+use Rattle.language.proofs.NameFacts.{same-refl, same-eq, same-sym, or-left-true, or-right-true, or-left-false, or-right-false, every-has}
 use Rattle.language.proofs.FreeFacts.{Agree, eval-agree}
 use Rattle.language.proofs.MeanFacts.{mean-same-deep, mean-trans}
 use Rattle.language.proofs.Depth.{after-none}
@@ -28,7 +28,7 @@ use Rattle.model.specs.FunctionNames.{there, taken}
 use Rattle.model.specs.Extract.{given-at, vars, made-fun, extracted}
 use Rattle.model.specs.Model.{turn}
 use Rattle.model.proofs.SetFacts.{pick-left, pick-right, set-other}
-use Rattle.model.proofs.PlaceMeaning.{Given, every-has, place-mean}
+use Rattle.model.proofs.PlaceMeaning.{Given, place-mean}
 use Rattle.model.proofs.Kept.{Kept, kept-refused, kept-pick, kept-now}
 use Rattle.model.proofs.KeptPlace.{kept-at}
 use Rattle.model.proofs.FunctionNamesFacts.{calling, Recalls, apply-recalled, each-self}

@@ -1,5 +1,5 @@
 -- A call put in place leaves what the program means. If a function is put into itself, the call and the lets run alike only if its old body and its
--- new one do: each is shown of the other at the depths below.
+-- new one do: each is shown of the other at the depths below. Assumes nothing.
 use mathlib.Core.Path.{_≡_, refl, ap, sym, _∙_}
 use mathlib.Core.Bool.{Bool, true, false, _&&_}
 use mathlib.Core.List.{List, [], _∷_}

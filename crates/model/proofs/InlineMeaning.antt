@@ -1,4 +1,4 @@
--- A let put in place leaves what the program means: what it gives is quiet, so it ends with the value of the let's name.
+-- A let put in place leaves what the program means: what it gives is quiet, so it ends with the value of the let's name. Assumes nothing.
 use mathlib.Core.Path.{_≡_, subst}
 use mathlib.Core.Bool.{true}
 use mathlib.Core.List.{List, [], _∷_}

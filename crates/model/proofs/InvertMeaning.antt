@@ -1,4 +1,4 @@
--- An if turned the other way round means the same: its condition is told from 0 once more, and its arms change places.
+-- An if turned the other way round means the same: its condition is told from 0 once more, and its arms change places. Assumes nothing.
 use mathlib.Core.Path.{_≡_, refl, ap, sym, _∙_, fun-ext, subst}
 use mathlib.Core.Bool.{Bool, true, false}
 use mathlib.Core.List.{List, [], _∷_, append-nil}

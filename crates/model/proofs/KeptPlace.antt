@@ -1,4 +1,5 @@
 -- Turns that put something at a place of a function: what runs there as what stood there leaves what the program means as it was.
+-- Assumes nothing.
 use mathlib.Core.Path.{_≡_, ap, _∙_}
 use mathlib.Core.List.{List, _∷_}
 use Prim.Native.Nat.{ℕ}

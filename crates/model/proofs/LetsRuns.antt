@@ -1,4 +1,5 @@
 -- A call as lets: the values one after the other, each where the names before it are given too, and then the function's expression.
+-- Assumes nothing.
 use mathlib.Core.Path.{_≡_, refl, ap, sym, _∙_, subst, fun-ext}
 use mathlib.Core.Bool.{Bool, true, false, not}
 use mathlib.Core.List.{List, [], _∷_}
@@ -13,14 +14,13 @@ use Rattle.language.specs.Bytes.{Name}
 use Rattle.language.specs.Expr.{Expr, call, bind, Exprs, no-exprs, expr-and, Fun, Program, exprs-in}
 use Rattle.language.specs.Meaning.{Came, came, wrong, deep, Bound, look, fun-of, after-telling, then, binds, Cames, cames, wrongs, deeps, more-cames, and-cames, Ev, eval-all, called, step, eval}
 use Rattle.language.specs.Names.{has, free, distinct}
-use Rattle.language.proofs.NameFacts.{same-eq, same-sym, or-false, or-left-false, or-right-false}
+use Rattle.language.proofs.NameFacts.{same-eq, same-sym, or-false, or-left-false, or-right-false, every-has}
 use Rattle.language.proofs.FreeFacts.{Agree, agree-without, eval-agree}
 use Rattle.language.proofs.Depth.{after-none, after-twice}
 use Rattle.language.proofs.Reach.{Reach, Run, later, then-reach, run-down}
 use Rattle.language.proofs.AlikeRuns.{alike-eval}
 use Rattle.model.specs.Inline.{with-bind, binds-of}
 use Rattle.model.proofs.SetFacts.{pick-left, pick-right}
-use Rattle.model.proofs.PlaceMeaning.{every-has}
 use Rattle.model.proofs.PutForRuns.{First, first-map}
 
 -- something done with values, once they are there
@@ -128,19 +128,19 @@ agrees-under x v cs ds (expr-and e es) h a = (
   agrees-under x v cs ds es (or-right-false (has (free e) x) (any (λ b. has (free b) x) (exprs-in es)) h) (a .1),
 )
 
-let-forth : (n : ℕ) (r : Program) (ds cs : List Bound) (x : Name) (e c : Expr) (W : ℕ → Came) → Agree cs ds (free e) →
+one-let-forth : (n : ℕ) (r : Program) (ds cs : List Bound) (x : Name) (e c : Expr) (W : ℕ → Came) → Agree cs ds (free e) →
     ((v : ℕ) → Reach (W v) (λ m. eval m r (record { name = x; value = v } ∷ cs) c)) → Reach (then (eval n r ds e) W) (λ m. eval m r cs (bind x e c))
 unfolding eval step
-let-forth n r ds cs x e c W a h =
+one-let-forth n r ds cs x e c W a h =
     later (then (eval n r ds e) W) (λ m. eval m r cs (bind x e c))
     (then-reach (eval n r ds e) W (λ m. eval m r cs e) (λ m v. eval m r (record { name = x; value = v } ∷ cs) c)
     (alike-eval r cs ds e e (λ m. eval-agree m r cs ds e a) n .1) h)
 
-let-back : (n : ℕ) (r : Program) (ds cs : List Bound) (x : Name) (e c : Expr) (W : ℕ → ℕ → Came) → Agree cs ds (free e) →
+one-let-back : (n : ℕ) (r : Program) (ds cs : List Bound) (x : Name) (e c : Expr) (W : ℕ → ℕ → Came) → Agree cs ds (free e) →
     ((v : ℕ) → Reach (eval n r (record { name = x; value = v } ∷ cs) c) (λ m. W m v)) →
     Reach (eval n r cs (bind x e c)) (λ m. then (eval m r ds e) (W m))
 unfolding eval step
-let-back n r ds cs x e c W a h =
+one-let-back n r ds cs x e c W a h =
     run-down n (suc n) r cs (bind x e c) (λ m. then (eval m r ds e) (W m)) (omega arith)
     (then-reach (eval n r cs e) (λ v. eval n r (record { name = x; value = v } ∷ cs) c) (λ m. eval m r ds e) W
     (alike-eval r cs ds e e (λ m. eval-agree m r cs ds e a) n .0) h)
@@ -171,7 +171,7 @@ module _ (r : Program) (n : ℕ) (ds : List Bound) where
   lets-forth b (x ∷ xs) (expr-and e es) cs l a k h =
       lets-step (λ v c. Forth es (λ vs. k (v ∷ vs)) (record { name = x; value = v } ∷ cs) c) (Forth (expr-and e es) k cs) x e
       (λ c q. subst (λ o. Reach o (λ m. eval m r cs (bind x e c))) (sym (with-and (eval n r ds e) (eval-all (λ e. eval n r ds e) es) k))
-      (let-forth n r ds cs x e c (λ v. with-all (eval-all (λ e. eval n r ds e) es) (λ vs. k (v ∷ vs))) (a .0) q))
+      (one-let-forth n r ds cs x e c (λ v. with-all (eval-all (λ e. eval n r ds e) es) (λ vs. k (v ∷ vs))) (a .0) q))
       (any (λ d. has (free d) x) (exprs-in es)) (binds-of xs (exprs-in es) b)
       (λ apart v. lets-forth b xs es (record { name = x; value = v } ∷ cs) (omega arith) (agrees-under x v cs ds es apart (a .1)) (λ vs. k (v ∷ vs))
       (λ vs m. h (v ∷ vs) (ap suc m)))
@@ -188,7 +188,7 @@ module _ (r : Program) (n : ℕ) (ds : List Bound) where
       lets-step (λ v c. Back es (λ m vs. k m (v ∷ vs)) (record { name = x; value = v } ∷ cs) c) (Back (expr-and e es) k cs) x e
       (λ c q. subst (λ G. Reach (eval n r cs (bind x e c)) G)
       (fun-ext λ m. sym (with-and (eval m r ds e) (eval-all (λ e. eval m r ds e) es) (k m)))
-      (let-back n r ds cs x e c (λ m v. with-all (eval-all (λ e. eval m r ds e) es) (λ vs. k m (v ∷ vs))) (a .0) q))
+      (one-let-back n r ds cs x e c (λ m v. with-all (eval-all (λ e. eval m r ds e) es) (λ vs. k m (v ∷ vs))) (a .0) q))
       (any (λ d. has (free d) x) (exprs-in es)) (binds-of xs (exprs-in es) b)
       (λ apart v. lets-back b xs es (record { name = x; value = v } ∷ cs) (omega arith) (agrees-under x v cs ds es apart (a .1))
       (λ m vs. k m (v ∷ vs)) (λ vs m. h (v ∷ vs) (ap suc m)))

@@ -16,3 +16,4 @@ pub mod InlineMeaning
 pub mod LetsRuns
 pub mod InlineCallMeaning
 pub mod ExtractMeaning
+pub mod EveryMeaning

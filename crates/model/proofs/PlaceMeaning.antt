@@ -1,4 +1,4 @@
--- Something else put at a place: what runs as it does there runs as it does around it, and so the program means the same.
+-- Something else put at a place: what runs as it does there runs as it does around it, and so the program means the same. Assumes nothing.
 use mathlib.Core.Path.{_≡_, refl, ap, sym, _∙_, subst, subst₂}
 use mathlib.Core.Bool.{Bool, true, false}
 use mathlib.Core.List.{List, [], _∷_, nil≢cons}
@@ -6,8 +6,7 @@ use Prim.Native.Nat.{ℕ, zero, suc, _≤_}
 use native.Mathlib.Omega.{arith}
 use lib.ListN.{length}
 use borrow.Author.Tests.{clash}
-use Rattle.std.proofs.shelf.Tests.{and-parts}
-use Rattle.language.specs.Basics.{pick, or, every, same}
+use Rattle.language.specs.Basics.{pick, or, same}
 use Rattle.language.specs.Bytes.{Name}
 use Rattle.language.specs.Expr.{Expr, num, var, bin, call, bind, choice, tell, Exprs, no-exprs, expr-and, Fun, Program, parts}
 use Rattle.language.specs.Meaning.{Bound, look, fun-of, binds}
@@ -38,14 +37,6 @@ unfolding binds
 given-binds [] vs l y h = absurd (clash h)
 given-binds (x ∷ xs) [] l y h = absurd (omega arith)
 given-binds (x ∷ xs) (v ∷ vs) l y h = given-bind xs (binds xs vs) x v (given-binds xs vs (omega arith)) y h
-
-pub every-has : (xs ys : List Name) → every (has xs) ys ≡ true → (y : Name) → has ys y ≡ true → has xs y ≡ true
-every-has xs [] h y k = absurd (clash k)
-every-has xs (z ∷ zs) h y k = go (same y z) refl k (every-has xs zs (and-parts (has xs z) (every (has xs) zs) h .1) y)
-  where
-    go : (t : Bool) → same y z ≡ t → or t (has zs y) ≡ true → (has zs y ≡ true → has xs y ≡ true) → has xs y ≡ true
-    go true e k ih = ap (has xs) (same-eq y z e) ∙ and-parts (has xs z) (every (has xs) zs) h .0
-    go false e k ih = ih k
 
 nth-runs : (n : ℕ) (q : Program) (bs : List Bound) (es : Exprs) (k : ℕ) (a b : Expr) → Run n q bs a q bs b →
     Runs n q bs (put-nth es k a) q bs (put-nth es k b)

@@ -1,5 +1,5 @@
 -- What ends put for a name's uses: what comes of it runs as before, with the name no longer given. The idea: wherever the name is used, what is
--- put there ends with the name's value, since none of its own names is given anew on the way.
+-- put there ends with the name's value, since none of its own names is given anew on the way. Assumes nothing.
 use mathlib.Core.Path.{_≡_, refl, ap, sym, _∙_, subst, fun-ext}
 use mathlib.Core.Bool.{Bool, true, false, _&&_, not}
 use mathlib.Core.List.{List, [], _∷_}

@@ -1,4 +1,4 @@
--- What is quiet comes to a number and tells nothing, in every program where its names are given: part by part.
+-- What is quiet comes to a number and tells nothing, in every program where its names are given: part by part. Assumes nothing.
 use mathlib.Core.Path.{_≡_, refl, ap, sym, subst}
 use mathlib.Core.Bool.{Bool, true, false, _&&_}
 use mathlib.Core.List.{List, [], _∷_}
@@ -13,11 +13,12 @@ use Rattle.language.specs.Bytes.{Name}
 use Rattle.language.specs.Expr.{limit, Expr, num, var, bin, call, bind, choice, tell, Program}
 use Rattle.language.specs.Meaning.{came, wrong, Bound, look, truth, reckon, after-telling, then, looked, step, eval}
 use Rattle.language.specs.Statements.{values-in}
+use Rattle.language.proofs.BareRuns.{binds-values}
 use Rattle.language.proofs.Depth.{Under, under-same, eval-up}
 use Rattle.language.proofs.Reach.{Reach, still, later, then-reach, pick-reach}
 use Rattle.model.specs.Inline.{quiet}
 use Rattle.model.specs.Statements.{Quiet-quiet}
-use Rattle.model.proofs.PlaceMeaning.{Given, given-bind}
+use Rattle.model.proofs.PlaceMeaning.{Given, given-binds}
 use Rattle.model.proofs.SetFacts.{pick-left}
 
 -- from some depth on, this number and nothing told
@@ -107,10 +108,7 @@ quiet-ends r gs ds g (choice c a b) h =
 quiet-ends r gs ds g (tell a) h = absurd (clash h)
 
 given-values : (xs : List Name) (vs : List ℕ) → length xs ≡ length vs → Given xs (values-in xs vs)
-unfolding values-in
-given-values [] vs l y h = absurd (clash h)
-given-values (x ∷ xs) [] l y h = absurd (omega arith)
-given-values (x ∷ xs) (v ∷ vs) l y h = given-bind xs (values-in xs vs) x v (given-values xs vs (omega arith)) y h
+given-values xs vs l = subst (Given xs) (binds-values xs vs) (given-binds xs vs (sym l))
 
 pub quiet-quiet : Quiet-quiet
 quiet-quiet p xs vs e n l small-enough h d =

@@ -1,8 +1,7 @@
-// The reference model: definitions in specs/, and what is true of it.
+// The reference model: definitions in specs/, and what is true of it. Each function below has a theorem for its contract.
 
 ghost use Rattle.model.specs.Statements.{Quiet-quiet};
 
-// What is quiet tells nothing and doesn't go wrong.
 pub fn quiet_is_quiet() -> u8
     ensures { λ _. ⌜ Quiet-quiet ⌝ }
 {
