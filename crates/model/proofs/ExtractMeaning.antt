@@ -71,7 +71,8 @@ module _ (r : Program) (y : Name) (e : Expr) (gs : List Fun) (found : fun-of r y
   call-made n =
       unfold eval step in
       ap₂ (called (λ cs c. eval (suc n) r cs c)) found (vs .run n)
-      ∙ unfold called in pick-left (eqb (length (vs .values)) (length (free e))) _ (wrong 3 []) (eq-eqb (length (vs .values)) (length (free e)) (vs .as-many))
+      ∙ unfold called in pick-left (eqb (length (vs .values)) (length (free e))) _ (wrong 3 [])
+      (eq-eqb (length (vs .values)) (length (free e)) (vs .as-many))
       ∙ after-none (eval (suc n) r (binds (free e) (vs .values)) e)
       ∙ eval-agree (suc n) r (binds (free e) (vs .values)) ds e (vs .agree)
     where
@@ -117,13 +118,15 @@ added-mean p g new =
     not-main : same y main ≡ false
     not-main = or-left-false (same y main) (or (there p y) (any (calling y) p)) new
 
+    not-known : or (there p y) (any (calling y) p) ≡ false
+    not-known = or-right-false (same y main) (or (there p y) (any (calling y) p)) new
+
     recalls : Recalls y y p (p ++ g ∷ [])
     recalls =
         record {
           finds = λ h other.
               ap (fun-of (p ++ g ∷ [])) (pick-right (same y h) y h other) ∙ found-other p g h other ∙ sym (each-self y (fun-of p h));
-          uncalled = λ h other.
-              found-none (calling y) p h (or-right-false (there p y) (any (calling y) p) (or-right-false (same y main) (or (there p y) (any (calling y) p)) new));
+          uncalled = λ h other. found-none (calling y) p h (or-right-false (there p y) (any (calling y) p) not-known);
         }
 
 module _ (p : Program) (f : Fun) (fs : List Fun) (found : fun-of p (f .name) ≡ f ∷ fs) (ks : List ℕ) (e : Expr) (es : List Expr)
@@ -159,8 +162,8 @@ module _ (p : Program) (f : Fun) (fs : List Fun) (found : fun-of p (f .name) ≡
       subst (Mean-same p) (set-added p (f .name) calling-it (made-fun y e) other)
       (mean-trans p added (set-fun added (f .name) calling-it) (added-mean p (made-fun y e) new)
       (place-mean added f fs (found-other p (made-fun y e) (f .name) other ∙ found) ks e es (call y (vars (free e))) stands
-      (λ n ds given. made-alike (set-fun added (f .name) calling-it) y e [] in-after ds (its-names ds given) n .0)
-      (λ n ds given. made-alike added y e [] in-added ds (its-names ds given) n .1)))
+      (λ n k l ds given. made-alike (set-fun added (f .name) calling-it) y e [] in-after ds (its-names ds given) k .0)
+      (λ n k l ds given. made-alike added y e [] in-added ds (its-names ds given) k .1)))
 
 pub extract-mean : (w : Plain) (x : Name) (ks : List ℕ) (y : Name) → Kept w (turn w (extract x ks y))
 unfolding turn

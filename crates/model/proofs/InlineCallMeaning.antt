@@ -109,7 +109,8 @@ module _ (p : Program) (f : Fun) (fs : List Fun) (found : fun-of p (f .name) ≡
 
   call-place-mean : Mean-same p after
   call-place-mean =
-      place-mean p f fs found ks (call g es) os new stands (λ n ds given. forth (same (f .name) g) refl n ds) (λ n ds given. back n ds)
+      place-mean p f fs found ks (call g es) os new stands (λ n k l ds given. forth (same (f .name) g) refl k ds)
+      (λ n k l ds given. back k ds)
 
 -- what is refused, or the lets
 kept-lets : (w : Plain) (f : Fun) (fs : List Fun) → fun-of (w .now) (f .name) ≡ f ∷ fs → (g : Name) (h : Fun) (hs : List Fun) →

@@ -30,4 +30,4 @@ pub kept-put : (w : Plain) (f : Fun) (fs : List Fun) (ks : List ℕ) (old : Expr
     at-place (f .body) ks ≡ old ∷ os → Alike-given (given-at (f .params) (f .body) ks) old new → Kept w (put-in w f ks new)
 kept-put w f fs ks old os new found stands alike =
     kept-now w _
-    (λ small. place-mean (w .now) f fs found ks old os new stands (λ n ds g. alike _ ds g n .0) (λ n ds g. alike (w .now) ds g n .1))
+    (λ small. place-mean (w .now) f fs found ks old os new stands (λ n k l ds g. alike _ ds g k .0) (λ n k l ds g. alike (w .now) ds g k .1))

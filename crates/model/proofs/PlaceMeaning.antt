@@ -72,18 +72,22 @@ part-run n q (choice f d e) (suc (suc zero)) c cs h xs bs g a b r =
 part-run n q (choice f d e) (suc (suc (suc k))) c cs h xs bs g a b r = absurd (nil≢cons h)
 part-run n q (tell d) k c cs h xs bs g a b r = run-tell n q q bs bs a b (r bs g)
 
--- what runs at a place as the other does, runs around it so, as deep as is asked
+-- a runs as b does, where these names are given, as deep as n
+abbrev pub Runs-given : ℕ → Program → List Name → Expr → Expr → Type 0
+Runs-given n q xs a b = (k : ℕ) → k ≤ n → (ds : List Bound) → Given xs ds → Run k q ds a q ds b
+
+-- what runs at a place as the other does, runs around it so
 pub place-run : (q : Program) (a b : Expr) (ks : List ℕ) (e : Expr) (xs : List Name) (bs : List Bound) → Given xs bs → (n : ℕ) →
-    ((k : ℕ) → k ≤ n → (ds : List Bound) → Given (given-at xs e ks) ds → Run k q ds a q ds b) → Run n q bs (put-at e ks a) q bs (put-at e ks b)
+    Runs-given n q (given-at xs e ks) a b → Run n q bs (put-at e ks a) q bs (put-at e ks b)
 unfolding put-at given-at given-to
 place-run q a b [] e xs bs g n r = r n (omega arith) bs g
 place-run q a b (k ∷ ks) e xs bs g zero r = run-zero q q bs bs (put-at e (k ∷ ks) a) (put-at e (k ∷ ks) b)
 place-run q a b (k ∷ ks) e xs bs g (suc n) r = go (nth-expr (parts e) k) refl r (λ c ys ds d. place-run q a b ks c ys ds d n)
   where
     go : (cs : List Expr) → nth-expr (parts e) k ≡ cs →
-        ((j : ℕ) → j ≤ suc n → (ds : List Bound) → Given (given-to (given-in xs e k) cs (λ ys c. given-at ys c ks)) ds → Run j q ds a q ds b) →
-        ((c : Expr) (ys : List Name) (ds : List Bound) → Given ys ds →
-        ((j : ℕ) → j ≤ n → (ds : List Bound) → Given (given-at ys c ks) ds → Run j q ds a q ds b) → Run n q ds (put-at c ks a) q ds (put-at c ks b)) →
+        Runs-given (suc n) q (given-to (given-in xs e k) cs (λ ys c. given-at ys c ks)) a b →
+        ((c : Expr) (ys : List Name) (ds : List Bound) → Given ys ds → Runs-given n q (given-at ys c ks) a b →
+        Run n q ds (put-at c ks a) q ds (put-at c ks b)) →
         Run (suc n) q bs (put-some e k cs (λ c. put-at c ks a)) q bs (put-some e k cs (λ c. put-at c ks b))
     go [] h r ih = run-self (suc n) q bs e
     go (c ∷ cs) h r ih =
@@ -106,13 +110,16 @@ module _ (p : Program) (f : Fun) (fs : List Fun) (found : fun-of p (f .name) ≡
   abbrev made : Fun
   made = with-body f (put-at (f .body) ks new)
 
-  others : (y : Name) → same (f .name) y ≡ false → fun-of (set-fun p (f .name) made) y ≡ fun-of p y
+  abbrev after : Program
+  after = set-fun p (f .name) made
+
+  others : (y : Name) → same (f .name) y ≡ false → fun-of after y ≡ fun-of p y
   others y = set-other p (f .name) y made refl
 
-  there-now : fun-of (set-fun p (f .name) made) (f .name) ≡ made ∷ []
+  there-now : fun-of after (f .name) ≡ made ∷ []
   there-now = set-here p (f .name) f fs made refl found
 
-  pub body-run : (q : Program) (n : ℕ) → ((k : ℕ) → k ≤ n → (ds : List Bound) → Given (given-at (f .params) (f .body) ks) ds → Run k q ds old q ds new) →
+  pub body-run : (q : Program) (n : ℕ) → Runs-given n q (given-at (f .params) (f .body) ks) old new →
       (gs hs : List Fun) → Paired n q q (f ∷ gs) (made ∷ hs)
   body-run q n forth gs hs = (
     refl,
@@ -120,7 +127,7 @@ module _ (p : Program) (f : Fun) (fs : List Fun) (found : fun-of p (f .name) ≡
         (place-run q old new ks (f .body) (f .params) (binds (f .params) vs) (given-binds (f .params) vs l) n forth),
   )
 
-  pub run-body : (q : Program) (n : ℕ) → ((k : ℕ) → k ≤ n → (ds : List Bound) → Given (given-at (f .params) (f .body) ks) ds → Run k q ds new q ds old) →
+  pub run-body : (q : Program) (n : ℕ) → Runs-given n q (given-at (f .params) (f .body) ks) new old →
       (gs hs : List Fun) → Paired n q q (made ∷ gs) (f ∷ hs)
   run-body q n back gs hs = (
     refl,
@@ -128,15 +135,14 @@ module _ (p : Program) (f : Fun) (fs : List Fun) (found : fun-of p (f .name) ≡
         (place-run q new old ks (f .body) (f .params) (binds (f .params) vs) (given-binds (f .params) vs l) n back),
   )
 
-  pub place-mean :
-      ((n : ℕ) (ds : List Bound) → Given (given-at (f .params) (f .body) ks) ds → Run n (set-fun p (f .name) made) ds old (set-fun p (f .name) made) ds new) →
-      ((n : ℕ) (ds : List Bound) → Given (given-at (f .params) (f .body) ks) ds → Run n p ds new p ds old) → Mean-same p (set-fun p (f .name) made)
+  pub place-mean : ((n : ℕ) → Runs-given n after (given-at (f .params) (f .body) ks) old new) →
+      ((n : ℕ) → Runs-given n p (given-at (f .params) (f .body) ks) new old) → Mean-same p after
   unfolding Mean-same
   place-mean forth back = (
-    bodies-as-deep p (set-fun p (f .name) made)
-        (one-fun-bodies p (set-fun p (f .name) made) (f .name) (f ∷ fs) (made ∷ []) others found there-now
-        (λ n. body-run (set-fun p (f .name) made) n (λ k l. forth k) fs [])),
-    bodies-as-deep (set-fun p (f .name) made) p
-        (one-fun-bodies (set-fun p (f .name) made) p (f .name) (made ∷ []) (f ∷ fs) (λ y e. sym (others y e)) there-now found
-        (λ n. run-body p n (λ k l. back k) [] fs)),
+    bodies-as-deep p after
+        (one-fun-bodies p after (f .name) (f ∷ fs) (made ∷ []) others found there-now
+        (λ n. body-run after n (forth n) fs [])),
+    bodies-as-deep after p
+        (one-fun-bodies after p (f .name) (made ∷ []) (f ∷ fs) (λ y e. sym (others y e)) there-now found
+        (λ n. run-body p n (back n) [] fs)),
   )

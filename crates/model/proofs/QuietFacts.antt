@@ -76,7 +76,8 @@ choice-ends r ds c a b u v w s t z =
 num-ends : (r : Program) (ds : List Bound) (n : ℕ) → ltb n limit ≡ true → Ends r ds (num n) n
 unfolding eval step
 num-ends r ds n h =
-    later (came n []) (λ m. eval m r ds (num n)) (subst (λ c. Reach (came n []) (λ m. c)) (sym (pick-left (ltb n limit) (came n []) (wrong 5 []) h)) (still (came n [])))
+    later (came n []) (λ m. eval m r ds (num n))
+    (subst (λ c. Reach (came n []) (λ m. c)) (sym (pick-left (ltb n limit) (came n []) (wrong 5 []) h)) (still (came n [])))
 
 pub var-ends : (r : Program) (ds : List Bound) (x : Name) (v : ℕ) → look ds x ≡ v ∷ [] → Ends r ds (var x) v
 unfolding eval step looked
