@@ -60,7 +60,7 @@ pub bare-eval : ℕ → List Bare-fun → List ℕ → Bare → Came
 bare-eval zero fs vs b = deep
 bare-eval (suc n) fs vs b = bare-step fs (λ ws c. bare-eval n fs ws c) vs b
 
-binds-values : (xs : List Name) (vs : List ℕ) → binds xs vs ≡ values-in xs vs
+pub binds-values : (xs : List Name) (vs : List ℕ) → binds xs vs ≡ values-in xs vs
 unfolding binds values-in
 binds-values [] vs = refl
 binds-values (x ∷ xs) [] = refl

@@ -18,3 +18,6 @@ pub mod BareSpelling
 pub mod PlaceFits
 pub mod ProgramFits
 pub mod PlaceLengths
+pub mod Depth
+pub mod Reach
+pub mod AlikeRuns

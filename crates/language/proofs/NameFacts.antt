@@ -5,7 +5,7 @@ use mathlib.Core.List.{List, [], _∷_, _++_}
 use lib.Dec.{eqb}
 use borrow.Author.Tests.{clash, eqb-true, eq-eqb}
 use Rattle.std.proofs.shelf.Tests.{and-parts, and-from}
-use Rattle.language.specs.Basics.{pick, or, same}
+use Rattle.language.specs.Basics.{pick, or, every, same}
 use Rattle.language.specs.Bytes.{Name}
 use Rattle.language.specs.Names.{has, joined, less}
 
@@ -95,3 +95,12 @@ has-less y (z ∷ zs) x = go (same y z) refl (has-less y zs x)
         over true true k j = absurd (clash (sym h ∙ ap (λ v. same v z) (same-eq y x k) ∙ j))
         over true false k j = refl
         over false s k j = refl
+
+-- names of which xs has each
+pub every-has : (xs ys : List Name) → every (has xs) ys ≡ true → (y : Name) → has ys y ≡ true → has xs y ≡ true
+every-has xs [] h y k = absurd (clash k)
+every-has xs (z ∷ zs) h y k = go (same y z) refl k (every-has xs zs (and-parts (has xs z) (every (has xs) zs) h .1) y)
+  where
+    go : (t : Bool) → same y z ≡ t → or t (has zs y) ≡ true → (has zs y ≡ true → has xs y ≡ true) → has xs y ≡ true
+    go true e k ih = ap (has xs) (same-eq y z e) ∙ and-parts (has xs z) (every (has xs) zs) h .0
+    go false e k ih = ih k

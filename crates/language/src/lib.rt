@@ -1,6 +1,12 @@
 // The language: definitions in specs/, and what is true of it. Each function below has a theorem for its contract.
 
-ghost use Rattle.language.specs.Statements.{Alike-same, Free-matter, There-again};
+ghost use Rattle.language.specs.Statements.{Deeper-same, Alike-same, Free-matter, There-again};
+
+pub fn depth_is_no_matter() -> u8
+    ensures { λ _. ⌜ Deeper-same ⌝ }
+{
+    0
+}
 
 pub fn places_hold() -> u8
     ensures { λ _. ⌜ There-again ⌝ }

@@ -18,7 +18,7 @@ use Rattle.model.proofs.SetFacts.{pick-right}
 use Rattle.model.proofs.Kept.{Kept, kept-refused, kept-pick, kept-now, kept-fun}
 use Rattle.model.proofs.FunctionNamesFacts.{calling, Recalls, apply-recalled, each-self}
 
-found-none : (P : Fun → Bool) (p : Program) (x : Name) → any P p ≡ false → any P (fun-of p x) ≡ false
+pub found-none : (P : Fun → Bool) (p : Program) (x : Name) → any P p ≡ false → any P (fun-of p x) ≡ false
 unfolding fun-of
 found-none P [] x h = refl
 found-none P (f ∷ fs) x h = go (same (f .name) x) (found-none P fs x (or-right-false (P f) (any P fs) h))

@@ -10,3 +10,13 @@ pub mod CaptureFacts
 pub mod PlaceSays
 pub mod CaptureChecks
 pub mod CaptureTurns
+pub mod PlaceMeaning
+pub mod KeptPlace
+pub mod InvertMeaning
+pub mod QuietFacts
+pub mod PutForRuns
+pub mod InlineMeaning
+pub mod LetsRuns
+pub mod InlineCallMeaning
+pub mod ExtractMeaning
+pub mod EveryMeaning
