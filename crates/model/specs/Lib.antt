@@ -12,3 +12,4 @@ pub mod Engine
 pub mod Whole
 pub mod Statements
 pub mod Reading
+pub mod Simulation
