@@ -1,0 +1,4 @@
+pub mod Hex
+pub mod HexResults
+pub mod Lines
+pub mod LineResults
