@@ -1,0 +1,113 @@
+// A machine with the memory and the row that it is lent, told the commands of a session.
+use crate::fault::Stop;
+use crate::fault::StopFromAlloc;
+use crate::fault::StopFromIo;
+use crate::output::Output;
+use machine::MEMORY_WORDS;
+use machine::ROW_BYTES;
+use machine::Told;
+use machine::step;
+use session::HexError;
+use session::Line;
+use session::read_line;
+use std::alloc::AllocError;
+use std::alloc::Global;
+use std::io;
+use std::io::Stdout;
+
+const SAY: u64 = 0;
+
+const GO_ON: u64 = 1;
+
+// A command shows at most 1,024 rows; past this it is taken never to end.
+const MOST_ROWS: usize = 4096;
+
+#[derive(Drop)]
+pub struct Player {
+    heap: Global,
+    memory: Vec<u64>,
+    row: Vec<u8>,
+    line: u64,
+    output: Output,
+}
+
+impl Player {
+    pub fn new(heap: Global, stdout: Stdout) -> Result<Player, AllocError> {
+        let memory = vec![in heap; 0u64; MEMORY_WORDS]?;
+        let row = vec![in heap; 0u8; ROW_BYTES]?;
+        let output = Output::new(heap, stdout);
+        Ok(Player {
+            heap,
+            memory,
+            row,
+            line: 0,
+            output,
+        })
+    }
+
+    pub fn heap(&self) -> Global {
+        self.heap
+    }
+
+    // Begins a session: the machine has forgotten all.
+    pub fn start(&mut self) {
+        self.memory.as_mut_slice().fill(0);
+        self.line = 0;
+    }
+
+    pub fn play_line(&mut self, text: &[u8]) -> Result<(), Stop> {
+        self.line = self.line.saturating_add(1);
+        let line = self.line;
+        match read_line(self.heap, text) {
+            Ok(Line::Skip) => Ok(()),
+            Ok(Line::Command(command)) => self.say(command.as_slice()),
+            Err(HexError::NotADigit(at)) => Err(Stop::NotADigit {
+                line,
+                column: column(at),
+            }),
+            Err(HexError::MissingDigit(at)) => Err(Stop::MissingDigit {
+                line,
+                column: column(at),
+            }),
+            Err(HexError::OutOfMemory) => Err(Stop::from(AllocError)),
+        }
+    }
+
+    fn say(&mut self, command: &[u8]) -> Result<(), Stop> {
+        let mut told = step(
+            self.memory.as_mut_slice(),
+            SAY,
+            command,
+            self.row.as_mut_slice(),
+        );
+        for _ in 0..=MOST_ROWS {
+            match told {
+                Told::Shows(len) => self.show(len)?,
+                Told::Done => return Ok(self.output.done()?),
+                Told::No(reason) => return Ok(self.output.refused(reason)?),
+            }
+            told = step(
+                self.memory.as_mut_slice(),
+                GO_ON,
+                &[],
+                self.row.as_mut_slice(),
+            );
+        }
+        Err(Stop::Endless { line: self.line })
+    }
+
+    fn show(&mut self, len: u64) -> Result<(), Stop> {
+        match self.row.as_slice().get(0..len as usize) {
+            Some(row) => Ok(self.output.shows(row)?),
+            None => Err(Stop::LongRow { line: self.line }),
+        }
+    }
+
+    pub fn flush(&mut self) -> io::Result<()> {
+        self.output.flush()
+    }
+}
+
+fn column(at: usize) -> u64 {
+    (at as u64).saturating_add(1)
+}
