@@ -1,15 +1,18 @@
 // What a replay prints, collected and written in large pieces.
-use session::write_hex;
+use session::Ending;
+use session::write_ending;
+use session::write_row;
 use std::alloc::Global;
 use std::io;
 use std::io::Stdout;
 use std::io::Write;
 
-// Standard output is unbuffered, so each write costs a call of the system.
+// Standard output is unbuffered: each write is a call of the system.
 const PIECE_BYTES: usize = 65536;
 
 #[derive(Drop)]
 pub struct Output {
+    heap: Global,
     stdout: Stdout,
     pending: Vec<u8>,
 }
@@ -17,27 +20,24 @@ pub struct Output {
 impl Output {
     pub fn new(heap: Global, stdout: Stdout) -> Output {
         let pending = Vec::new(heap);
-        Output { stdout, pending }
+        Output {
+            heap,
+            stdout,
+            pending,
+        }
     }
 
-    pub fn shows(&mut self, row: &[u8]) -> io::Result<()> {
-        self.pending.extend_from_slice(b"shows ")?;
-        write_hex(&mut self.pending, row)?;
-        self.end_line()
+    pub fn row(&mut self, row: &[u8]) -> io::Result<()> {
+        write_row(&mut self.pending, row)?;
+        self.flush_large()
     }
 
-    pub fn done(&mut self) -> io::Result<()> {
-        self.pending.extend_from_slice(b"done")?;
-        self.end_line()
+    pub fn ending(&mut self, ending: Ending) -> io::Result<()> {
+        write_ending(self.heap, &mut self.pending, ending)?;
+        self.flush_large()
     }
 
-    pub fn refused(&mut self, reason: u64) -> io::Result<()> {
-        write!(self.pending, "refused {reason}")?;
-        self.end_line()
-    }
-
-    fn end_line(&mut self) -> io::Result<()> {
-        self.pending.push(b'\n')?;
+    fn flush_large(&mut self) -> io::Result<()> {
         if self.pending.len() < PIECE_BYTES {
             return Ok(());
         }

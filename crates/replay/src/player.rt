@@ -1,4 +1,7 @@
 // A machine with the memory and the row that it is lent, told the commands of a session.
+ghost use mathlib.Core.Path.{_≡_};
+ghost use lib.ListN.{replicate};
+ghost use Rattle.std.specs.Of.Vec.{vec-items, vec-len};
 use crate::fault::Stop;
 use crate::fault::StopFromAlloc;
 use crate::fault::StopFromIo;
@@ -7,6 +10,7 @@ use machine::MEMORY_WORDS;
 use machine::ROW_BYTES;
 use machine::Told;
 use machine::step;
+use session::Ending;
 use session::HexError;
 use session::Line;
 use session::read_line;
@@ -50,7 +54,10 @@ impl Player {
     }
 
     // Begins a session: the machine has forgotten all.
-    pub fn start(&mut self) {
+    pub fn start(&mut self)
+        ensures memory { λ _. ⌜ vec-items (now (self .exit) .memory) ≡ replicate (vec-len (now (self .entry) .memory)) 0 ⌝ }
+        ensures line { λ _. ⌜ now (self .exit) .line ≡ 0 ⌝ }
+    {
         self.memory.as_mut_slice().fill(0);
         self.line = 0;
     }
@@ -83,8 +90,8 @@ impl Player {
         for _ in 0..=MOST_ROWS {
             match told {
                 Told::Shows(len) => self.show(len)?,
-                Told::Done => return Ok(self.output.done()?),
-                Told::No(reason) => return Ok(self.output.refused(reason)?),
+                Told::Done => return Ok(self.output.ending(Ending::Done)?),
+                Told::No(reason) => return Ok(self.output.ending(Ending::Refused(reason))?),
             }
             told = step(
                 self.memory.as_mut_slice(),
@@ -98,7 +105,7 @@ impl Player {
 
     fn show(&mut self, len: u64) -> Result<(), Stop> {
         match self.row.as_slice().get(0..len as usize) {
-            Some(row) => Ok(self.output.shows(row)?),
+            Some(row) => Ok(self.output.row(row)?),
             None => Err(Stop::LongRow { line: self.line }),
         }
     }
