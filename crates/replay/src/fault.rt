@@ -3,13 +3,21 @@ use std::alloc::AllocError;
 use std::fmt;
 use std::io;
 
-// Why a session is not played to its end. Lines count from 1, and so do columns, in bytes.
+// Both count from 1; columns are bytes.
+#[derive(Clone, Copy)]
+pub struct Place {
+    pub line: u64,
+    pub column: u64,
+}
+
+// Why a session is not played to its end.
 #[derive(Drop)]
 pub enum Stop {
     Unreadable(io::Error),
-    NoMemoryOrOutput(io::Error),
-    NotADigit { line: u64, column: u64 },
-    MissingDigit { line: u64, column: u64 },
+    // There is no memory, or what is printed cannot be written.
+    System(io::Error),
+    NotADigit(Place),
+    MissingDigit(Place),
     Endless { line: u64 },
     LongRow { line: u64 },
 }
@@ -23,13 +31,13 @@ pub enum Fault {
 
 pub impl From<io::Error> for Stop as StopFromIo {
     fn from(error: io::Error) -> Stop {
-        Stop::NoMemoryOrOutput(error)
+        Stop::System(error)
     }
 }
 
 pub impl From<AllocError> for Stop as StopFromAlloc {
     fn from(error: AllocError) -> Stop {
-        Stop::NoMemoryOrOutput(io::Error::from(error))
+        Stop::System(io::Error::from(error))
     }
 }
 
@@ -48,9 +56,12 @@ pub impl From<AllocError> for Fault as FaultFromAlloc {
 fn describe<W: fmt::Write>(f: &mut fmt::Formatter<W>, name: &str, stop: &Stop) -> fmt::Result {
     match stop {
         Stop::Unreadable(error) => write!(f, "{name}: {error}"),
-        Stop::NoMemoryOrOutput(error) => write!(f, "{error}"),
-        Stop::NotADigit { line, column } => write!(f, "{name}:{line}:{column}: not a hex digit"),
-        Stop::MissingDigit { line, column } => write!(
+        Stop::System(error) => write!(f, "{error}"),
+        Stop::NotADigit(Place { line, column }) => write!(
+            f,
+            "{name}:{line}:{column}: not a hex digit"
+        ),
+        Stop::MissingDigit(Place { line, column }) => write!(
             f,
             "{name}:{line}:{column}: a hex digit is missing"
         ),

@@ -39,22 +39,24 @@ fn play_file(rt: &LibcRuntime, player: &mut Player, name: &str) -> Result<(), St
     }
 }
 
-fn play_all(rt: &LibcRuntime, player: &mut Player) -> Result<(), Fault> {
-    let names = env::args(rt)?.skip(1);
-    let mut from_files = false;
-    for name in names {
-        from_files = true;
-        if let Err(stop) = play_file(rt, player, name.as_str()) {
-            return Err(Fault::File { name, stop });
-        }
-    }
-    if from_files {
-        return Ok(());
-    }
+fn play_input(rt: &LibcRuntime, player: &mut Player) -> Result<(), Fault> {
     match play_lines(player, rt.stdin()) {
         Ok(()) => Ok(()),
         Err(stop) => Err(Fault::Input(stop)),
     }
+}
+
+fn play_all(rt: &LibcRuntime, player: &mut Player) -> Result<(), Fault> {
+    let args = env::args(rt)?;
+    if args.len() < 2 {
+        return play_input(rt, player);
+    }
+    for name in args.skip(1) {
+        if let Err(stop) = play_file(rt, player, name.as_str()) {
+            return Err(Fault::File { name, stop });
+        }
+    }
+    Ok(())
 }
 
 fn replay(rt: &LibcRuntime) -> Result<(), Fault> {

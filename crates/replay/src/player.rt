@@ -2,6 +2,7 @@
 ghost use mathlib.Core.Path.{_≡_};
 ghost use lib.ListN.{replicate};
 ghost use Rattle.std.specs.Of.Vec.{vec-items, vec-len};
+use crate::fault::Place;
 use crate::fault::Stop;
 use crate::fault::StopFromAlloc;
 use crate::fault::StopFromIo;
@@ -19,6 +20,7 @@ use std::alloc::Global;
 use std::io;
 use std::io::Stdout;
 
+// What kind of step: a command is said, or the one under way goes on.
 const SAY: u64 = 0;
 
 const GO_ON: u64 = 1;
@@ -64,41 +66,41 @@ impl Player {
 
     pub fn play_line(&mut self, text: &[u8]) -> Result<(), Stop> {
         self.line = self.line.saturating_add(1);
-        let line = self.line;
         match read_line(self.heap, text) {
             Ok(Line::Skip) => Ok(()),
             Ok(Line::Command(command)) => self.say(command.as_slice()),
-            Err(HexError::NotADigit(at)) => Err(Stop::NotADigit {
-                line,
-                column: column(at),
-            }),
-            Err(HexError::MissingDigit(at)) => Err(Stop::MissingDigit {
-                line,
-                column: column(at),
-            }),
+            Err(HexError::NotADigit(at)) => Err(Stop::NotADigit(self.place(at))),
+            Err(HexError::MissingDigit(at)) => Err(Stop::MissingDigit(self.place(at))),
             Err(HexError::OutOfMemory) => Err(Stop::from(AllocError)),
         }
     }
 
-    fn say(&mut self, command: &[u8]) -> Result<(), Stop> {
-        let mut told = step(
+    fn place(&self, at: usize) -> Place {
+        let column = (at as u64).saturating_add(1);
+        Place {
+            line: self.line,
+            column,
+        }
+    }
+
+    fn step(&mut self, kind: u64, text: &[u8]) -> Told {
+        step(
             self.memory.as_mut_slice(),
-            SAY,
-            command,
+            kind,
+            text,
             self.row.as_mut_slice(),
-        );
+        )
+    }
+
+    fn say(&mut self, command: &[u8]) -> Result<(), Stop> {
+        let mut told = self.step(SAY, command);
         for _ in 0..=MOST_ROWS {
             match told {
                 Told::Shows(len) => self.show(len)?,
                 Told::Done => return Ok(self.output.ending(Ending::Done)?),
                 Told::No(reason) => return Ok(self.output.ending(Ending::Refused(reason))?),
             }
-            told = step(
-                self.memory.as_mut_slice(),
-                GO_ON,
-                &[],
-                self.row.as_mut_slice(),
-            );
+            told = self.step(GO_ON, &[]);
         }
         Err(Stop::Endless { line: self.line })
     }
@@ -113,8 +115,4 @@ impl Player {
     pub fn flush(&mut self) -> io::Result<()> {
         self.output.flush()
     }
-}
-
-fn column(at: usize) -> u64 {
-    (at as u64).saturating_add(1)
 }

@@ -49,13 +49,13 @@ fn digit_of(value: u8) -> u8
     }
 }
 
-fn value_of(digit: u8) -> Option<u8>
-    ensures { λ r. ⌜ r ≡ digit-value digit ⌝ }
+fn value_of(byte: u8) -> Option<u8>
+    ensures { λ r. ⌜ r ≡ digit-value byte ⌝ }
 {
-    match digit {
-        b'0'..=b'9' => Some(digit - b'0'),
-        b'a'..=b'f' => Some(digit - b'a' + 10),
-        b'A'..=b'F' => Some(digit - b'A' + 10),
+    match byte {
+        b'0'..=b'9' => Some(byte - b'0'),
+        b'a'..=b'f' => Some(byte - b'a' + 10),
+        b'A'..=b'F' => Some(byte - b'A' + 10),
         _ => None,
     }
 }
@@ -96,6 +96,7 @@ pub fn write_hex(out: &mut Vec<u8>, bytes: &[u8]) -> Result<(), AllocError>
     Ok(())
 }
 
+// A text of an even number of digits is read; any other is refused at its first fault.
 pub fn read_hex(heap: Global, text: &[u8]) -> Result<Vec<u8>, HexError>
     ensures read { λ r. ⌜ Reads-hex (now (text .entry)) r ⌝ }
     ensures even_digits { λ _. ⌜ Even-digits ⌝ }
