@@ -1,4 +1,6 @@
 pub mod SetFacts
+pub mod TurnWalk
+pub mod TurnFacts
 pub mod Kept
 pub mod RenameFacts
 pub mod RenameMeaning

@@ -1,9 +1,21 @@
 // The reference model: definitions in specs/, and what is true of it. Each function below has a theorem for its contract.
 
-ghost use Rattle.model.specs.Statements.{Quiet-quiet};
+ghost use Rattle.model.specs.Statements.{Quiet-quiet, Refused-same, Back-again};
 
 pub fn quiet_is_quiet() -> u8
     ensures { λ _. ⌜ Quiet-quiet ⌝ }
+{
+    0
+}
+
+pub fn refusals_change_nothing() -> u8
+    ensures { λ _. ⌜ Refused-same ⌝ }
+{
+    0
+}
+
+pub fn going_back_restores() -> u8
+    ensures { λ _. ⌜ Back-again ⌝ }
 {
     0
 }
