@@ -22,3 +22,4 @@ pub mod LetsRuns
 pub mod InlineCallMeaning
 pub mod ExtractMeaning
 pub mod EveryMeaning
+pub mod FineFacts

@@ -1,7 +1,7 @@
 -- What a turn can be: a refusal, a look, a loading, a going back, or a program that was made so and so. One walk over the model finds these
 -- five ways, and every theorem about turns takes them one by one. Assumes nothing.
 use mathlib.Core.Path.{_≡_, refl, ap, sym, _∙_}
-use mathlib.Core.Bool.{Bool, true, false, _&&_, not}
+use mathlib.Core.Bool.{true, false, not}
 use mathlib.Core.List.{List, [], _∷_, _++_}
 use Prim.Native.Nat.{ℕ, _≤_, _<_}
 use native.Mathlib.Omega.{arith}
@@ -19,7 +19,7 @@ use Rattle.language.specs.Bare.{alike}
 use Rattle.language.specs.Spelling.{program-spelled}
 use Rattle.language.proofs.NameFacts.{or-left-false, or-right-false}
 use Rattle.model.specs.Command.{Command, load, show, names, rename-bind, rename-param, rename-fun, extract, inline-bind, inline-call, turn-cond, drop-fun, undo}
-use Rattle.model.specs.State.{Plain, Turn, no, yes-with, now-is, with-body, set-fun, put-in, at-fun, at-expr, fine}
+use Rattle.model.specs.State.{Plain, Turn, no, yes-with, now-is, with-body, set-fun, at-fun, at-expr, fine}
 use Rattle.model.specs.Rename.{renamed, put-name, nth-name, bind-renamed, param-renamed}
 use Rattle.model.specs.FunctionNames.{taken, still-called, fun-renamed, fun-called, fun-dropped}
 use Rattle.model.specs.Extract.{given-at, vars, made-fun, extracted}

@@ -1,6 +1,6 @@
 // The reference model: definitions in specs/, and what is true of it. Each function below has a theorem for its contract.
 
-ghost use Rattle.model.specs.Statements.{Quiet-quiet, Refused-same, Back-again};
+ghost use Rattle.model.specs.Statements.{Quiet-quiet, Refused-same, Back-again, Stays-fine};
 
 pub fn quiet_is_quiet() -> u8
     ensures { λ _. ⌜ Quiet-quiet ⌝ }
@@ -16,6 +16,12 @@ pub fn refusals_change_nothing() -> u8
 
 pub fn going_back_restores() -> u8
     ensures { λ _. ⌜ Back-again ⌝ }
+{
+    0
+}
+
+pub fn programs_stay_fine() -> u8
+    ensures { λ _. ⌜ Stays-fine ⌝ }
 {
     0
 }
