@@ -36,6 +36,11 @@ module _ {A : Type 0} (p : A → Bool) where
       go true ih = and-from (p x) (every p (those q xs)) (both .0) ih
       go false ih = ih
 
+pub every-so : {A : Type 0} (p q : A → Bool) → ((x : A) → p x ≡ true → q x ≡ true) → (xs : List A) → every p xs ≡ true → every q xs ≡ true
+every-so p q h [] k = refl
+every-so p q h (x ∷ xs) k =
+    let both = and-parts (p x) (every p xs) k in and-from (q x) (every q xs) (h x (both .0)) (every-so p q h xs (both .1))
+
 pub every-each : {A B : Type 0} (p : A → Bool) (q : B → Bool) (f : A → B) → ((x : A) → p x ≡ true → q (f x) ≡ true) → (xs : List A) → every p xs ≡ true →
     every q (each f xs) ≡ true
 every-each p q f h [] k = refl

@@ -23,3 +23,5 @@ pub mod InlineCallMeaning
 pub mod ExtractMeaning
 pub mod EveryMeaning
 pub mod FineFacts
+pub mod MadeFits
+pub mod StayFacts

@@ -1,6 +1,6 @@
 // The reference model: definitions in specs/, and what is true of it. Each function below has a theorem for its contract.
 
-ghost use Rattle.model.specs.Statements.{Quiet-quiet, Refused-same, Back-again, Stays-fine};
+ghost use Rattle.model.specs.Statements.{Quiet-quiet, Refused-same, Back-again, Stays-fine, Stays-program};
 
 pub fn quiet_is_quiet() -> u8
     ensures { λ _. ⌜ Quiet-quiet ⌝ }
@@ -22,6 +22,12 @@ pub fn going_back_restores() -> u8
 
 pub fn programs_stay_fine() -> u8
     ensures { λ _. ⌜ Stays-fine ⌝ }
+{
+    0
+}
+
+pub fn programs_stay_programs() -> u8
+    ensures { λ _. ⌜ Stays-program ⌝ }
 {
     0
 }
