@@ -25,3 +25,4 @@ pub mod EveryMeaning
 pub mod FineFacts
 pub mod MadeFits
 pub mod StayFacts
+pub mod WorkedFacts

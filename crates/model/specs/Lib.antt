@@ -12,3 +12,5 @@ pub mod Engine
 pub mod Whole
 pub mod Statements
 pub mod Reading
+pub mod Sample
+pub mod Worked

@@ -1,6 +1,7 @@
 // The reference model: definitions in specs/, and what is true of it. Each function below has a theorem for its contract.
 
 ghost use Rattle.model.specs.Statements.{Quiet-quiet, Refused-same, Back-again, Stays-fine, Stays-program};
+ghost use Rattle.model.specs.Worked.{Worked-table};
 
 pub fn quiet_is_quiet() -> u8
     ensures { λ _. ⌜ Quiet-quiet ⌝ }
@@ -28,6 +29,12 @@ pub fn programs_stay_fine() -> u8
 
 pub fn programs_stay_programs() -> u8
     ensures { λ _. ⌜ Stays-program ⌝ }
+{
+    0
+}
+
+pub fn worked_formula() -> u8
+    ensures { λ _. ⌜ Worked-table ⌝ }
 {
     0
 }
