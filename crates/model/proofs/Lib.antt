@@ -26,3 +26,4 @@ pub mod FineFacts
 pub mod MadeFits
 pub mod StayFacts
 pub mod WorkedFacts
+pub mod GuardFacts

@@ -14,3 +14,4 @@ pub mod Statements
 pub mod Reading
 pub mod Sample
 pub mod Worked
+pub mod Guards

@@ -2,6 +2,7 @@
 
 ghost use Rattle.model.specs.Statements.{Quiet-quiet, Refused-same, Back-again, Stays-fine, Stays-program};
 ghost use Rattle.model.specs.Worked.{Worked-table};
+ghost use Rattle.model.specs.Guards.{Guards};
 
 pub fn quiet_is_quiet() -> u8
     ensures { λ _. ⌜ Quiet-quiet ⌝ }
@@ -35,6 +36,12 @@ pub fn programs_stay_programs() -> u8
 
 pub fn worked_formula() -> u8
     ensures { λ _. ⌜ Worked-table ⌝ }
+{
+    0
+}
+
+pub fn refusals_guard_meaning() -> u8
+    ensures { λ _. ⌜ Guards ⌝ }
 {
     0
 }
