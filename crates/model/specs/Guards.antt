@@ -1,7 +1,7 @@
 -- What refusals guard: for each a small program on which the command, done anyway, would change what main comes to or tells.
 -- A row's words have main and the others before and after; what main comes to then is in the row. Assumes nothing: these are definitions.
 use mathlib.Core.Path.{_≡_}
-use mathlib.Core.Bool.{not}
+use mathlib.Core.Bool.{true, not}
 use mathlib.Core.List.{List, [], _∷_, _++_}
 use Prim.Native.Nat.{ℕ}
 use Rattle.language.specs.Basics.{each, those, same}
@@ -10,17 +10,22 @@ use Rattle.language.specs.Expr.{Expr, num, var, bin, call, bind, choice, tell, 
 use Rattle.language.specs.Meaning.{Came, came, wrong, apply}
 use Rattle.language.specs.Places.{put-at}
 use Rattle.language.specs.Names.{free}
+use Rattle.language.specs.Fits.{a-program}
 use Rattle.language.specs.Equivalence.{Mean-same}
-use Rattle.model.specs.Command.{Command, rename-bind, rename-param, rename-fun, extract, inline-bind, inline-call, drop-fun}
-use Rattle.model.specs.State.{no}
+use Rattle.model.specs.Command.{Command, rename-bind, rename-param, rename-fun, extract, inline-bind, inline-call, drop-fun, fits}
+use Rattle.model.specs.State.{no, fine}
 use Rattle.model.specs.Rename.{renamed, put-name}
 use Rattle.model.specs.FunctionNames.{fun-renamed}
 use Rattle.model.specs.Extract.{vars, made-fun}
 use Rattle.model.specs.Model.{turn}
 use Rattle.model.specs.Sample.{a, b, f, g, x, z, one, two, fun, loaded}
 
--- The command is refused with k. Done anyway it would make q of p, and main would come to s where it comes to r: another meaning.
+-- Of a program and a command that there may be: the command is refused with k. Done anyway it would make q of p, and main would come to s where
+-- it comes to r: another meaning.
 pub record Guarded (p : Program) (c : Command) (k : ℕ) (q : Program) (vs : List ℕ) (r s : Came) : Type 0 where
+  pub program-fits : a-program p ≡ true
+  pub program-fine : fine p ≡ true
+  pub command-fits : fits c ≡ true
   pub refusal : turn (loaded p) c ≡ no k (loaded p)
   pub comes-to : apply 8 p main vs ≡ r
   pub would-come-to : apply 8 q main vs ≡ s
