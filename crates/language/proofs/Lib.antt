@@ -7,6 +7,7 @@ pub mod HeadFacts
 pub mod NodeFacts
 pub mod ExprFacts
 pub mod ProgramFacts
+pub mod Once
 pub mod PlaceFacts
 pub mod FreeFacts
 pub mod BareRuns

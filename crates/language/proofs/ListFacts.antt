@@ -2,9 +2,9 @@
 use mathlib.Core.Path.{_≡_, refl, ap, ap₂, sym, _∙_}
 use mathlib.Core.Bool.{Bool, true, false, _&&_}
 use mathlib.Core.List.{List, [], _∷_, _++_}
-use Prim.Native.Nat.{ℕ, zero, suc, _+_}
+use Prim.Native.Nat.{ℕ, zero, suc, _+_, _≤_, _<_}
 use lib.ListN.{length, getD, take, drop}
-use Rattle.std.proofs.shelf.Lists.{append-assoc}
+use Rattle.std.proofs.shelf.Lists.{append-assoc, at-drop-more, at-drop-all}
 use Rattle.std.proofs.shelf.Tests.{and-parts, and-from}
 use Rattle.language.specs.Basics.{pick, every, each, those, flat}
 
@@ -50,6 +50,17 @@ every-each p q f h (x ∷ xs) k =
 pub each-append : {A B : Type 0} (f : A → B) (xs ys : List A) → each f (xs ++ ys) ≡ each f xs ++ each f ys
 each-append f [] ys = refl
 each-append f (x ∷ xs) ys = ap (_∷_ (f x)) (each-append f xs ys)
+
+-- a loop that tests one element after the other
+module _ {A : Type 0} (p : A → Bool) (xs : List A) (i : ℕ) (d : A) where
+  pub every-more : i < length xs → p (getD xs i d) ≡ true → every p (drop i xs) ≡ every p (drop (i + 1) xs)
+  every-more h t = at-drop-more (every p) xs i d h ∙ ap (λ b. b && every p (drop (i + 1) xs)) t
+
+  pub every-not : i < length xs → p (getD xs i d) ≡ false → every p (drop i xs) ≡ false
+  every-not h t = at-drop-more (every p) xs i d h ∙ ap (λ b. b && every p (drop (i + 1) xs)) t
+
+pub every-end : {A : Type 0} (p : A → Bool) (xs : List A) (i : ℕ) → length xs ≤ i → every p (drop i xs) ≡ true
+every-end p xs i h = at-drop-all (every p) xs i h
 
 pub flat-append : {A B : Type 0} (f : A → List B) (xs ys : List A) → flat f (xs ++ ys) ≡ flat f xs ++ flat f ys
 flat-append f [] ys = refl

@@ -208,6 +208,9 @@ pub all-there : (bs p : List ℕ) → Stands bs 0 p → length p ≡ length bs �
 all-there bs p s l =
     s ∙ ap (λ r. p ++ r) (drop-all (0 + length p) bs (omega arith)) ∙ append-nil p
 
+pub whole-stands : (bs : List ℕ) → Stands bs 0 bs
+whole-stands bs = sym (append-nil bs) ∙ ap (λ l. bs ++ l) (sym (drop-all (0 + length bs) bs (omega arith)))
+
 pub program-was : (bs : List ℕ) → all-bytes bs ≡ true → is-program bs ≡ true → (p : Program) × (program-spelled p ≡ bs) × (a-program p ≡ true)
 program-was bs bytes e = go (number-at bs 0) refl (q .1)
   where
@@ -257,7 +260,7 @@ program-read p bytes fit =
     few = leb-true _ _ (r .0)
 
     whole : Stands (program-spelled p) 0 (program-spelled p)
-    whole = sym (append-nil (program-spelled p)) ∙ ap (λ l. program-spelled p ++ l) (sym (drop-all (0 + length (program-spelled p)) (program-spelled p) (omega arith)))
+    whole = whole-stands (program-spelled p)
 
     funs : Stands (program-spelled p) 8 (flat fun-spelled p)
     funs = subst (λ m. Stands (program-spelled p) m (flat fun-spelled p)) (omega (arith, length-eight (length p))) (stands-second (program-spelled p) 0 (eight (length p)) (flat fun-spelled p) whole)

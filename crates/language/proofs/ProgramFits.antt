@@ -47,9 +47,9 @@ body-short p x f fs e =
     omega (arith, own, whole, found-long p x f fs e)
 
 -- what fits has a name, few own names, which fit, and a body that fits
-pub fun-parts : (f : Fun) → a-fun f ≡ true →
+pub fun-fits : (f : Fun) → a-fun f ≡ true →
     (a-name (f .name) ≡ true) × (length (f .params) ≤ 16) × (every a-name (f .params) ≡ true) × (an-expr (f .body) ≡ true)
-fun-parts f h =
+fun-fits f h =
     let outer = and-parts (a-name (f .name) && (leb (length (f .params)) 16 && every a-name (f .params))) (an-expr (f .body)) h in
     let inner = and-parts (a-name (f .name)) (leb (length (f .params)) 16 && every a-name (f .params)) (outer .0) in
     let own = and-parts (leb (length (f .params)) 16) (every a-name (f .params)) (inner .1) in
@@ -79,5 +79,5 @@ pub found-fits : (p : Program) (x : Name) (f : Fun) (fs : List Fun) → a-progra
     (length (f .params) ≤ 16) × (an-expr (f .body) ≡ true) × (length (expr-spelled (f .body)) ≤ 65536)
 found-fits p x f fs fit found =
     let whole = program-fits p fit in
-    let own = fun-parts f (found-every a-fun p x f fs (whole .1) found) in
+    let own = fun-fits f (found-every a-fun p x f fs (whole .1) found) in
     (own .1, own .3, omega (arith, whole .2, body-short p x f fs found))

@@ -1,3 +1,7 @@
+pub mod FieldFacts
+pub mod SimulationFacts
+pub mod AskedFacts
+pub mod SpelledOnce
 pub mod SetFacts
 pub mod TurnWalk
 pub mod TurnFacts

@@ -18,9 +18,9 @@ use Rattle.language.specs.Fits.{a-name, an-expr, a-fun, a-program}
 use Rattle.language.proofs.ListFacts.{every-take, every-append, every-those, every-so, every-each}
 use Rattle.language.proofs.FitFacts.{bind-fit, choice-fit, fit-bin, fit-bind, fit-choice, pick-true}
 use Rattle.language.proofs.PlaceFits.{parts-fit, at-fit, put-fit}
-use Rattle.language.proofs.ProgramFits.{found-every, fun-parts, fit-fun, program-fits, fit-program}
+use Rattle.language.proofs.ProgramFits.{found-every, fun-fits, fit-fun, program-fits, fit-program}
 use Rattle.model.specs.Command.{Command, load, show, names, rename-bind, rename-param, rename-fun, extract, inline-bind, inline-call, turn-cond, drop-fun, undo, a-place, fits}
-use Rattle.model.specs.State.{Plain, Turn, with-body, fine}
+use Rattle.model.specs.State.{Plain, at-first, Turn, with-body, fine}
 use Rattle.model.specs.Rename.{renamed}
 use Rattle.model.specs.FunctionNames.{fun-renamed}
 use Rattle.model.specs.Extract.{vars, made-fun}
@@ -42,7 +42,7 @@ module _ (p : Program) (funs : every a-fun p ≡ true) where
   place-fit x ks at = found-every a-fun p x (at .fun) (at .rest) funs (at .found)
 
   standing-fit : (x : Name) (ks : List ℕ) (at : Standing p x ks) → Fit (at .expr)
-  standing-fit x ks at = at-fit ks (at .fun .body) (at .expr) (at .others) (fun-parts (at .fun) (place-fit x ks at) .3) (at .stands)
+  standing-fit x ks at = at-fit ks (at .fun .body) (at .expr) (at .others) (fun-fits (at .fun) (place-fit x ks at) .3) (at .stands)
 
   -- what stands there, if it is known what
   standing-is : (x : Name) (ks : List ℕ) (at : Standing p x ks) (e : Expr) → at .expr ≡ e → Fit e
@@ -50,7 +50,7 @@ module _ (p : Program) (funs : every a-fun p ≡ true) where
 
   put-funs : (x : Name) (ks : List ℕ) (at : Standing p x ks) (e : Expr) → Fit e → every a-fun (put-body p (at .fun) ks e) ≡ true
   put-funs x ks at e fit =
-      let own = fun-parts (at .fun) (place-fit x ks at) in
+      let own = fun-fits (at .fun) (place-fit x ks at) in
       let new = with-body (at .fun) (put-at (at .fun .body) ks e) in
       set-every a-fun p (at .fun .name) new funs (fit-fun new (own .0) (own .1) (own .2) (put-fit ks (at .fun .body) e (own .3) fit))
 
@@ -65,7 +65,7 @@ module _ (w : Plain) (funs : every a-fun (w .now) ≡ true) where
   param-funs : (x : Name) (i : ℕ) (y : Name) (p : Program) → a-name y ≡ true → Made-param w x i y p → every a-fun p ≡ true
   param-funs x i y p named m =
       let f = m .at .fun in
-      let own = fun-parts f (found-fit (w .now) funs x (m .at)) in
+      let own = fun-fits f (found-fit (w .now) funs x (m .at)) in
       let new = own-renamed f i (m .from) y in
       ap (every a-fun) (m .made)
       ∙ set-every a-fun (w .now) (f .name) new funs
@@ -74,7 +74,7 @@ module _ (w : Plain) (funs : every a-fun (w .now) ≡ true) where
 
   fun-funs : (x y : Name) → a-name y ≡ true → (f : Fun) → a-fun f ≡ true → a-fun (fun-renamed x y f) ≡ true
   fun-funs x y named f h =
-      let own = fun-parts f h in
+      let own = fun-fits f h in
       fit-fun (fun-renamed x y f) (pick-true a-name (same (f .name) x) y (f .name) named (own .0)) (own .1) (own .2) (recalled-fit (f .body) x y named (own .3))
 
   extract-funs : (x : Name) (ks : List ℕ) (y : Name) (p : Program) → a-name y ≡ true → Made-extract w x ks y p → every a-fun p ≡ true
@@ -99,7 +99,7 @@ module _ (w : Plain) (funs : every a-fun (w .now) ≡ true) where
   unfolding parts
   call-funs x ks p m =
       let g = m .called .fun in
-      let own = fun-parts g (found-fit (w .now) funs (m .name) (m .called)) in
+      let own = fun-fits g (found-fit (w .now) funs (m .name) (m .called)) in
       let values = parts-fit (call (m .name) (m .values)) (standing-is (w .now) funs x ks (m .at) _ (m .is-call)) in
       ap (every a-fun) (m .made)
       ∙ put-funs (w .now) funs x ks (m .at) (m .new)
@@ -172,7 +172,7 @@ pub record Sound (w : Plain) : Type 0 where
   pub before-fine : every fine (w .before) ≡ true
   pub few-before : length (w .before) ≤ 8
 
-pub sound-start : Sound (record { now = []; before = [] })
+pub sound-start : Sound at-first
 unfolding in-bytes distinct
 sound-start = record { now-fits = refl; now-fine = refl; before-fit = refl; before-fine = refl; few-before = omega arith }
 

@@ -12,6 +12,7 @@ pub mod Engine
 pub mod Whole
 pub mod Statements
 pub mod Reading
+pub mod Simulation
 pub mod Sample
 pub mod Worked
 pub mod Guards

@@ -17,6 +17,10 @@ pub record Plain : Type 0 where
   pub now : Program
   pub before : List Program  -- the newest first, up to eight
 
+-- no functions, and nothing to go back to
+abbrev pub at-first : Plain
+at-first = record { now = []; before = [] }
+
 pub record Turn : Type 0 where
   pub reply : ℕ
   pub shows : List (List ℕ)

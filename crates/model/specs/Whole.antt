@@ -9,7 +9,7 @@ use mathlib.Core.Logic.{_⊎_}
 use Rattle.language.specs.Fits.{a-program}
 use Rattle.language.specs.Equivalence.{Mean-same}
 use Rattle.model.specs.Command.{Command, spelled, fits}
-use Rattle.model.specs.State.{Plain, fine}
+use Rattle.model.specs.State.{Plain, at-first, fine}
 use Rattle.model.specs.Model.{turn, keeps}
 use Rattle.model.specs.Engine.{said, Engine, Ran, runs, Steady}
 
@@ -42,5 +42,5 @@ Means known =
 unfoldable pub Whole : (Command → Bool) → Engine → Type 0
 Whole known e =
     Steady e
-    × ((ts : List (List ℕ)) → length ts ≤ 4294967296 → Right known e (e .start) (record { now = []; before = [] }) ts)
+    × ((ts : List (List ℕ)) → length ts ≤ 4294967296 → Right known e (e .start) at-first ts)
     × Means known

@@ -40,34 +40,34 @@ abbrev pub third : Program
 third =
     fun main (x ∷ y ∷ []) (formula d (call far (two (var d) (var y)))) ∷ twice-fun ∷ fun far (d ∷ y ∷ []) (twice-told d) ∷ []
 
-abbrev pub at-first : Plain
-at-first = loaded first
+abbrev pub after-loading : Plain
+after-loading = loaded first
 
-abbrev pub at-second : Plain
-at-second = record { now = second; before = first ∷ [] }
+abbrev pub after-renaming : Plain
+after-renaming = record { now = second; before = first ∷ [] }
 
-abbrev pub at-third : Plain
-at-third = record { now = third; before = second ∷ first ∷ [] }
+abbrev pub after-extracting : Plain
+after-extracting = record { now = third; before = second ∷ first ∷ [] }
 
 -- a is not renamed to x: the x after else would be what is let
 abbrev pub A-to-x : Type 0
-A-to-x = turn at-first (rename-bind main [] x) ≡ no 5 at-first
+A-to-x = turn after-loading (rename-bind main [] x) ≡ no 5 after-loading
 
 -- a is renamed to d: let d be x - 2 in if y < d then twice(tell d, y) else x
 abbrev pub A-to-d : Type 0
-A-to-d = turn at-first (rename-bind main [] d) ≡ yes-with [] at-second
+A-to-d = turn after-loading (rename-bind main [] d) ≡ yes-with [] after-renaming
 
 -- the a of twice(a, b) is not renamed to b: its own names would be the same
 abbrev pub Own-to-b : Type 0
-Own-to-b = turn at-first (rename-param twice 0 b) ≡ no 5 at-first
+Own-to-b = turn after-loading (rename-param twice 0 b) ≡ no 5 after-loading
 
 -- the call after then becomes a function far, the last: far(d, y) is twice(tell d, y), and what stands there is far(d, y)
 abbrev pub Then-to-far : Type 0
-Then-to-far = turn at-second (extract main (1 ∷ 1 ∷ []) far) ≡ yes-with [] at-third
+Then-to-far = turn after-renaming (extract main (1 ∷ 1 ∷ []) far) ≡ yes-with [] after-extracting
 
 -- twice is not called far: there is a far
 abbrev pub Twice-to-far : Type 0
-Twice-to-far = turn at-third (rename-fun twice far) ≡ no 4 at-third
+Twice-to-far = turn after-extracting (rename-fun twice far) ≡ no 4 after-extracting
 
 -- main(5, 0) comes to 6, and tells 3
 abbrev pub Six : Program → Type 0

@@ -6,10 +6,10 @@ use Prim.Native.Nat.{ℕ, _+_, _-_, _≤_, _<_}
 use native.Mathlib.Omega.{arith}
 use lib.Dec.{ltb, leb}
 use lib.ListN.{length, getD, take, drop}
-use borrow.Author.Tests.{lt-ltb, le-ltb, le-leb, lt-leb}
+use borrow.Author.Tests.{lt-ltb, le-leb}
 use Rattle.std.specs.declared.option.Option.the-variants.{Some, None}
 use Rattle.std.specs.Holes.{between}
-use Rattle.std.proofs.shelf.Lists.{take-rest, at-drop-more}
+use Rattle.std.proofs.shelf.Lists.{take-rest}
 use Rattle.std.proofs.shelf.Tests.{and-from}
 use Rattle.language.specs.Basics.{pick, every}
 use Rattle.language.specs.Reading.{found, number-at, name-end}
@@ -23,15 +23,6 @@ pub index-got : (bs : List ℕ) → 0 < length bs → getD bs 0 0 < 16 → Some 
 index-got [] h k = absurd (omega arith)
 index-got (i ∷ bs) h k =
     ap (λ r. Some (field (i ∷ []) r)) (take-rest (i ∷ bs) 1) ∙ ap (λ t. pick t (Some (field (i ∷ []) bs)) None) (sym (lt-ltb i 16 k))
-
--- one number of a place after the other
-pub parts-more : (ks : List ℕ) (i : ℕ) → i < length ks → getD ks i 0 < 16 → every (λ k. ltb k 16) (drop i ks) ≡ every (λ k. ltb k 16) (drop (i + 1) ks)
-parts-more ks i h k =
-    at-drop-more (every (λ k. ltb k 16)) ks i 0 h ∙ ap (λ t. t && every (λ k. ltb k 16) (drop (i + 1) ks)) (lt-ltb _ _ k)
-
-pub parts-not : (ks : List ℕ) (i : ℕ) → i < length ks → 16 ≤ getD ks i 0 → every (λ k. ltb k 16) (drop i ks) ≡ false
-parts-not ks i h k =
-    at-drop-more (every (λ k. ltb k 16)) ks i 0 h ∙ ap (λ t. t && every (λ k. ltb k 16) (drop (i + 1) ks)) (le-ltb _ _ k)
 
 pub place-got : (bs : List ℕ) (n : ℕ) → Some n ≡ number-at bs 0 → n ≤ 4096 → 8 + n ≤ length bs → every (λ k. ltb k 16) (between 8 (8 + n) bs) ≡ true →
     Some (field (between 8 (8 + n) bs) (between (8 + n) (length bs) bs)) ≡ place-in bs

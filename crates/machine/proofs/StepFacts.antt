@@ -1,0 +1,68 @@
+-- What a step tells: misuse changes nothing; otherwise it is the machine's own step. Assumes nothing.
+use mathlib.Core.Path.{_≡_, refl, ap, sym, _∙_, subst}
+use mathlib.Core.Bool.{Bool, true, false, _&&_}
+use mathlib.Core.List.{List}
+use Prim.Native.Nat.{ℕ, _≤_, _<_}
+use native.Mathlib.Omega.{arith}
+use lib.Dec.{eqb, leb}
+use lib.ListN.{length, length-replicate}
+use borrow.Author.Tests.{clash, le-leb, lt-leb}
+use Rattle.std.proofs.shelf.Tests.{and-parts, and-from, and-left, and-right}
+use Rattle.language.specs.Basics.{pick}
+use Rattle.std.specs.declared.option.Option.{Option}
+use Rattle.model.specs.Reading.{Ask, asked}
+use Rattle.model.specs.Engine.{said, next, refused}
+use Rattle.machine.specs.declared.told.Told.{Told}
+use Rattle.machine.specs.declared.told.Told.the-variants.{No}
+use Rattle.machine.specs.Layout.{memory-words, memory-fits}
+use Rattle.machine.specs.Machine.{stepped, obeyed, by-event, own}
+use Rattle.machine.specs.Told.{event-of, Act-told, Tells, Step-says, step-fits}
+
+pub tells-no : (m out : List ℕ) (r : Told) (k : ℕ) → r ≡ No k → Tells (stepped m (refused k)) r out m out
+unfolding Act-told
+tells-no m out r k e = record { memory = refl; act = (e, refl) }
+
+own-long : length (own .start) ≡ memory-words
+unfolding own
+own-long = length-replicate {A = ℕ} 262144 0
+
+module _ (m : List ℕ) (kind : ℕ) (text out : List ℕ) (r : Told) (no : r ≡ No 0) where
+  unfit : step-fits own m kind out ≡ false → Step-says own m kind text out (step-fits own m kind out) r m out
+  unfolding Step-says
+  unfit e = subst (λ t. Step-says own m kind text out t r m out) (sym e) (no, refl, refl)
+
+  pub kind-unfit : 1 < kind → Step-says own m kind text out (step-fits own m kind out) r m out
+  kind-unfit h = unfit (and-right (eqb (length m) (length (own .start))) _ (and-left (leb kind 1) (leb 131072 (length out)) (lt-leb kind 1 h)))
+
+  pub row-unfit : length out < 131072 → Step-says own m kind text out (step-fits own m kind out) r m out
+  row-unfit h = unfit (and-right (eqb (length m) (length (own .start))) _ (and-right (leb kind 1) (leb 131072 (length out)) (lt-leb 131072 (length out) h)))
+
+  pub memory-unfit : memory-fits m ≡ false → Step-says own m kind text out (step-fits own m kind out) r m out
+  unfolding Step-says own
+  memory-unfit h = go (step-fits own m kind out)
+    where
+      go : (t : Bool) → Step-says own m kind text out t r m out
+      go true = subst (λ t. Tells (pick t (by-event m (event-of kind text)) (stepped m (refused 0))) r out m out) (sym h) (tells-no m out r 0 no)
+      go false = (no, refl, refl)
+
+-- where all fits, a step is what the event does
+module _ (m : List ℕ) (kind : ℕ) (text out : List ℕ) (r : Told) (m₁ out₁ : List ℕ) (o : 131072 ≤ length out) (h : memory-fits m ≡ true) where
+  all-fits : kind ≤ 1 → step-fits own m kind out ≡ true
+  all-fits k =
+      and-from _ _ (ap (eqb (length m)) own-long ∙ and-parts (eqb (length m) memory-words) _ h .0) (and-from _ _ (le-leb kind 1 k) (le-leb 131072 (length out) o))
+
+  step-told : kind ≤ 1 → Tells (by-event m (event-of kind text)) r out m₁ out₁ → Step-says own m kind text out (step-fits own m kind out) r m₁ out₁
+  unfolding Step-says own
+  step-told k s =
+      subst (λ t. Step-says own m kind text out t r m₁ out₁) (sym (all-fits k))
+      (subst (λ t. Tells (pick t (by-event m (event-of kind text)) (stepped m (refused 0))) r out m₁ out₁) (sym h) s)
+
+  pub said-told : kind ≡ 0 → Tells (by-event m (said text)) r out m₁ out₁ → Step-says own m kind text out (step-fits own m kind out) r m₁ out₁
+  said-told k s = step-told (omega arith) (subst (λ n. Tells (by-event m (event-of n text)) r out m₁ out₁) (sym k) s)
+
+  pub next-told : kind ≡ 1 → Tells (by-event m next) r out m₁ out₁ → Step-says own m kind text out (step-fits own m kind out) r m₁ out₁
+  next-told k s = step-told (omega arith) (subst (λ n. Tells (by-event m (event-of n text)) r out m₁ out₁) (sym k) s)
+
+-- what a text asks for, by what was read
+pub obeyed-as : (m text : List ℕ) (a : Option Ask) (r : Told) (out m₁ out₁ : List ℕ) → a ≡ asked text → Tells (obeyed m a) r out m₁ out₁ → Tells (obeyed m (asked text)) r out m₁ out₁
+obeyed-as m text a r out m₁ out₁ e s = subst (λ b. Tells (obeyed m b) r out m₁ out₁) e s

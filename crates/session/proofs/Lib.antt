@@ -1,0 +1,4 @@
+mod Writing
+mod Reading
+mod Laws
+mod Edges
