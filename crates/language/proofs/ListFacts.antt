@@ -6,7 +6,7 @@ use Prim.Native.Nat.{ℕ, zero, suc, _+_, _≤_, _<_}
 use lib.ListN.{length, getD, take, drop}
 use Rattle.std.proofs.shelf.Lists.{append-assoc, at-drop-more, at-drop-all}
 use Rattle.std.proofs.shelf.Tests.{and-parts, and-from}
-use Rattle.language.specs.Basics.{every, each, flat}
+use Rattle.language.specs.Basics.{pick, every, each, those, flat}
 
 module _ {A : Type 0} (p : A → Bool) where
   pub every-take : (n : ℕ) (xs : List A) → every p xs ≡ true → every p (take n xs) ≡ true
@@ -24,6 +24,32 @@ module _ {A : Type 0} (p : A → Bool) where
   every-append [] ys h k = k
   every-append (x ∷ xs) ys h k =
       let q = and-parts (p x) (every p xs) h in and-from (p x) (every p (xs ++ ys)) (q .0) (every-append xs ys (q .1) k)
+
+  pub every-those : (q : A → Bool) (xs : List A) → every p xs ≡ true → every p (those q xs) ≡ true
+  every-those q [] h = refl
+  every-those q (x ∷ xs) h = go (q x) (every-those q xs (both .1))
+    where
+      both : (p x ≡ true) × (every p xs ≡ true)
+      both = and-parts (p x) (every p xs) h
+
+      go : (t : Bool) → every p (those q xs) ≡ true → every p (pick t (x ∷ those q xs) (those q xs)) ≡ true
+      go true ih = and-from (p x) (every p (those q xs)) (both .0) ih
+      go false ih = ih
+
+pub every-so : {A : Type 0} (p q : A → Bool) → ((x : A) → p x ≡ true → q x ≡ true) → (xs : List A) → every p xs ≡ true → every q xs ≡ true
+every-so p q h [] k = refl
+every-so p q h (x ∷ xs) k =
+    let both = and-parts (p x) (every p xs) k in and-from (q x) (every q xs) (h x (both .0)) (every-so p q h xs (both .1))
+
+pub every-each : {A B : Type 0} (p : A → Bool) (q : B → Bool) (f : A → B) → ((x : A) → p x ≡ true → q (f x) ≡ true) → (xs : List A) → every p xs ≡ true →
+    every q (each f xs) ≡ true
+every-each p q f h [] k = refl
+every-each p q f h (x ∷ xs) k =
+    let both = and-parts (p x) (every p xs) k in and-from (q (f x)) (every q (each f xs)) (h x (both .0)) (every-each p q f h xs (both .1))
+
+pub each-append : {A B : Type 0} (f : A → B) (xs ys : List A) → each f (xs ++ ys) ≡ each f xs ++ each f ys
+each-append f [] ys = refl
+each-append f (x ∷ xs) ys = ap (_∷_ (f x)) (each-append f xs ys)
 
 -- a loop that tests one element after the other
 module _ {A : Type 0} (p : A → Bool) (xs : List A) (i : ℕ) (d : A) where

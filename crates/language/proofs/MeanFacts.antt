@@ -1,13 +1,19 @@
--- When two programs mean the same: if they run alike at every depth, and so if their functions differ only in their own names.
+-- When two programs mean the same: if they run alike at every depth, and so if their functions differ only in their own names; and then
+-- whatever their mains come to is the same.
 -- Assumes nothing.
 use mathlib.Core.Path.{_≡_, refl, ap, sym, _∙_}
-use mathlib.Core.List.{List}
-use Prim.Native.Nat.{ℕ}
-use Rattle.language.specs.Basics.{each}
-use Rattle.language.specs.Expr.{Program, main}
-use Rattle.language.specs.Meaning.{apply}
+use mathlib.Core.Bool.{true, false}
+use mathlib.Core.List.{List, []}
+use Prim.Native.Nat.{ℕ, _+_, _≤_}
+use native.Mathlib.Omega.{arith}
+use lib.Dec.{ltb}
+use Rattle.language.specs.Basics.{every, each}
+use Rattle.language.specs.Bytes.{Name}
+use Rattle.language.specs.Expr.{limit, Program, main}
+use Rattle.language.specs.Meaning.{fun-of, cames, eval, apply}
 use Rattle.language.specs.Equivalence.{is-deep, As-deep, Mean-same}
 use Rattle.language.proofs.BareRuns.{bare-fun, apply-bare}
+use Rattle.language.proofs.Depth.{under-same, called-under, eval-up}
 
 as-deep-same : (p q : Program) → ((n : ℕ) (vs : List ℕ) → apply n p main vs ≡ apply n q main vs) → As-deep p q
 unfolding As-deep
@@ -33,3 +39,19 @@ as-deep-on p q r h k vs n small ends =
 pub mean-trans : (p q r : Program) → Mean-same p q → Mean-same q r → Mean-same p r
 unfolding Mean-same
 mean-trans p q r h k = (as-deep-on p q r (h .0) (k .0), as-deep-on r q p (k .1) (h .1))
+
+-- what a function came to, it comes to however deep it may go
+pub apply-deeper : (n m : ℕ) (p : Program) (f : Name) (vs : List ℕ) → n ≤ m → is-deep (apply n p f vs) ≡ false → apply m p f vs ≡ apply n p f vs
+apply-deeper n m p f vs h ends =
+    under-same (apply n p f vs) (apply m p f vs)
+    (called-under (λ cs e. eval n p cs e) (λ cs e. eval m p cs e) (λ cs e. eval-up n m p cs e h) (fun-of p f) (cames vs []) (cames vs []) refl) ends
+
+-- mains of programs that mean the same come to the same, whenever both come to something
+pub mean-apply : (p q : Program) (n m : ℕ) (vs : List ℕ) → every (λ v. ltb v limit) vs ≡ true → Mean-same p q → is-deep (apply n p main vs) ≡ false →
+    is-deep (apply m q main vs) ≡ false → apply n p main vs ≡ apply m q main vs
+unfolding Mean-same As-deep
+mean-apply p q n m vs small same-mean ends-p ends-q =
+    let in-q = same-mean .0 vs n small ends-p in
+    let k = in-q .0 in
+    sym (in-q .1) ∙ sym (apply-deeper k (k + m) q main vs (omega arith) (ap is-deep (in-q .1) ∙ ends-p))
+    ∙ apply-deeper m (k + m) q main vs (omega arith) ends-q

@@ -7,7 +7,7 @@ use native.Mathlib.Omega.{arith}
 use lib.Dec.{leb}
 use lib.ListN.{length, length-append}
 use borrow.Author.Tests.{leb-true}
-use Rattle.std.proofs.shelf.Tests.{and-parts}
+use Rattle.std.proofs.shelf.Tests.{and-parts, and-from, le-leb}
 use Rattle.language.specs.Basics.{pick, every, flat, same}
 use Rattle.language.specs.Bytes.{eight, with-length, Name}
 use Rattle.language.specs.Expr.{Fun, Program}
@@ -46,12 +46,21 @@ body-short p x f fs e =
     let whole = length-append (eight (length p)) (flat fun-spelled p) in
     omega (arith, own, whole, found-long p x f fs e)
 
--- what fits has few own names, and a body that fits
-pub fun-fits : (f : Fun) → a-fun f ≡ true → (length (f .params) ≤ 16) × (an-expr (f .body) ≡ true)
+-- what fits has a name, few own names, which fit, and a body that fits
+pub fun-fits : (f : Fun) → a-fun f ≡ true →
+    (a-name (f .name) ≡ true) × (length (f .params) ≤ 16) × (every a-name (f .params) ≡ true) × (an-expr (f .body) ≡ true)
 fun-fits f h =
     let outer = and-parts (a-name (f .name) && (leb (length (f .params)) 16 && every a-name (f .params))) (an-expr (f .body)) h in
     let inner = and-parts (a-name (f .name)) (leb (length (f .params)) 16 && every a-name (f .params)) (outer .0) in
-    (leb-true (length (f .params)) 16 (and-parts (leb (length (f .params)) 16) (every a-name (f .params)) (inner .1) .0), outer .1)
+    let own = and-parts (leb (length (f .params)) 16) (every a-name (f .params)) (inner .1) in
+    (inner .0, leb-true (length (f .params)) 16 (own .0), own .1, outer .1)
+
+pub fit-fun : (f : Fun) → a-name (f .name) ≡ true → length (f .params) ≤ 16 → every a-name (f .params) ≡ true → an-expr (f .body) ≡ true → a-fun f ≡ true
+fit-fun f named few own body =
+    and-from (a-name (f .name) && (leb (length (f .params)) 16 && every a-name (f .params))) (an-expr (f .body))
+    (and-from (a-name (f .name)) (leb (length (f .params)) 16 && every a-name (f .params)) named
+    (and-from (leb (length (f .params)) 16) (every a-name (f .params)) (le-leb (length (f .params)) 16 few) own))
+    body
 
 pub program-fits : (p : Program) → a-program p ≡ true →
     (length p ≤ 1024) × (every a-fun p ≡ true) × (length (program-spelled p) ≤ 65536)
@@ -60,10 +69,15 @@ program-fits p h =
     let inner = and-parts (leb (length p) 1024) (every a-fun p) (outer .0) in
     (leb-true (length p) 1024 (inner .0), inner .1, leb-true (length (program-spelled p)) 65536 (outer .1))
 
+pub fit-program : (p : Program) → length p ≤ 1024 → every a-fun p ≡ true → length (program-spelled p) ≤ 65536 → a-program p ≡ true
+fit-program p few funs short =
+    and-from (leb (length p) 1024 && every a-fun p) (leb (length (program-spelled p)) 65536)
+    (and-from (leb (length p) 1024) (every a-fun p) (le-leb (length p) 1024 few) funs) (le-leb (length (program-spelled p)) 65536 short)
+
 -- the function that is found, of a program that fits
 pub found-fits : (p : Program) (x : Name) (f : Fun) (fs : List Fun) → a-program p ≡ true → fun-of p x ≡ f ∷ fs →
     (length (f .params) ≤ 16) × (an-expr (f .body) ≡ true) × (length (expr-spelled (f .body)) ≤ 65536)
 found-fits p x f fs fit found =
     let whole = program-fits p fit in
     let own = fun-fits f (found-every a-fun p x f fs (whole .1) found) in
-    (own .0, own .1, omega (arith, whole .2, body-short p x f fs found))
+    (own .1, own .3, omega (arith, whole .2, body-short p x f fs found))

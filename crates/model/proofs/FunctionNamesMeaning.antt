@@ -28,7 +28,7 @@ found-none P (f ∷ fs) x h = go (same (f .name) x) (found-none P fs x (or-right
     go false ih = ih
 
 -- no function is called so: neither the first nor one of the others
-none-there : (f : Fun) (fs : List Fun) (y : Name) → there (f ∷ fs) y ≡ false → (same (f .name) y ≡ false) × (there fs y ≡ false)
+pub none-there : (f : Fun) (fs : List Fun) (y : Name) → there (f ∷ fs) y ≡ false → (same (f .name) y ≡ false) × (there fs y ≡ false)
 unfolding fun-of
 none-there f fs y h = go (same (f .name) y) refl h
   where
@@ -37,7 +37,7 @@ none-there f fs y h = go (same (f .name) y) refl h
     go false e h = (e, h)
 
 -- names that are not y are as different as before where x is called y
-renamed-apart : (x y g h : Name) → same g y ≡ false → same y h ≡ false → same (pick (same g x) y g) (pick (same x h) y h) ≡ same g h
+pub renamed-apart : (x y g h : Name) → same g y ≡ false → same y h ≡ false → same (pick (same g x) y g) (pick (same x h) y h) ≡ same g h
 renamed-apart x y g h not-g not-h = go (same g x) (same x h) refl refl
   where
     go : (s t : Bool) → same g x ≡ s → same x h ≡ t → same (pick s y g) (pick t y h) ≡ same g h

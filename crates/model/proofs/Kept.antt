@@ -1,12 +1,9 @@
 -- How a turn ends that leaves what the program means as it was: refused, or with a program that means the same. Assumes nothing.
-use mathlib.Core.Path.{_≡_, refl}
-use mathlib.Core.Bool.{Bool, true, false, _&&_}
-use mathlib.Core.List.{List, [], _∷_}
+use mathlib.Core.Path.{_≡_}
+use mathlib.Core.Bool.{Bool, true, false}
+use mathlib.Core.List.{List, _∷_}
 use Prim.Native.Nat.{ℕ, _≤_}
-use lib.Dec.{leb}
 use lib.ListN.{length}
-use borrow.Author.Tests.{leb-true}
-use Rattle.std.proofs.shelf.Tests.{and-parts}
 use Rattle.language.specs.Basics.{pick}
 use Rattle.language.specs.Bytes.{Name}
 use Rattle.language.specs.Expr.{Expr, Fun, Program}
@@ -15,7 +12,8 @@ use Rattle.language.specs.Places.{at-place}
 use Rattle.language.specs.Spelling.{program-spelled}
 use Rattle.language.specs.Equivalence.{Mean-same}
 use Rattle.language.proofs.MeanFacts.{mean-refl}
-use Rattle.model.specs.State.{Plain, Turn, no, now-is, at-first-fun, at-fun, of-some, at-expr}
+use Rattle.model.specs.State.{Plain, Turn, no, now-is, at-fun, at-expr}
+use Rattle.model.proofs.TurnWalk.{walk-pick, walk-now, walk-fun, walk-expr}
 
 -- what stands after a turn means what stood before it
 abbrev pub Kept : Plain → Turn → Type 0
@@ -25,31 +23,18 @@ pub kept-refused : (w : Plain) (k : ℕ) → Kept w (no k w)
 kept-refused w k = mean-refl (w .now)
 
 pub kept-pick : (w : Plain) (t : Bool) (a b : Turn) → (t ≡ true → Kept w a) → (t ≡ false → Kept w b) → Kept w (pick t a b)
-kept-pick w true a b h k = h refl
-kept-pick w false a b h k = k refl
+kept-pick w = walk-pick (Kept w)
 
 -- a program that is not too large
 pub kept-now : (w : Plain) (p : Program) → (length (program-spelled p) ≤ 65536 → Mean-same (w .now) p) → Kept w (now-is w p)
-kept-now w p h =
-    kept-pick w (leb (length p) 1024 && leb (length (program-spelled p)) 65536) _ (no 7 w)
-    (λ e. h (leb-true _ 65536 (and-parts (leb (length p) 1024) (leb (length (program-spelled p)) 65536) e .1))) (λ e. kept-refused w 7)
+kept-now w p h = walk-now (Kept w) w p (kept-refused w 7) (λ few short. h short)
 
 -- what is done with a function that there is
 pub kept-fun : (w : Plain) (x : Name) (h : Fun → Turn) →
     ((f : Fun) (fs : List Fun) → fun-of (w .now) x ≡ f ∷ fs → Kept w (h f)) → Kept w (at-fun w x h)
-unfolding at-first-fun
-kept-fun w x h k = go (fun-of (w .now) x) refl
-  where
-    go : (fs : List Fun) → fun-of (w .now) x ≡ fs → Kept w (at-first-fun w fs h)
-    go [] found = kept-refused w 3
-    go (f ∷ fs) found = k f fs found
+kept-fun w x h = walk-fun (Kept w) w x h (kept-refused w 3)
 
 -- what is done with what stands at a place of it
 pub kept-expr : (w : Plain) (f : Fun) (ks : List ℕ) (h : Expr → Turn) →
     ((e : Expr) (es : List Expr) → at-place (f .body) ks ≡ e ∷ es → Kept w (h e)) → Kept w (at-expr w f ks h)
-unfolding of-some
-kept-expr w f ks h k = go (at-place (f .body) ks) refl
-  where
-    go : (es : List Expr) → at-place (f .body) ks ≡ es → Kept w (of-some w es h)
-    go [] stands = kept-refused w 3
-    go (e ∷ es) stands = k e es stands
+kept-expr w f ks h = walk-expr (Kept w) w f ks h (kept-refused w 3)

@@ -3,6 +3,8 @@ pub mod SimulationFacts
 pub mod AskedFacts
 pub mod SpelledOnce
 pub mod SetFacts
+pub mod TurnWalk
+pub mod TurnFacts
 pub mod Kept
 pub mod RenameFacts
 pub mod RenameMeaning
@@ -24,3 +26,8 @@ pub mod LetsRuns
 pub mod InlineCallMeaning
 pub mod ExtractMeaning
 pub mod EveryMeaning
+pub mod FineFacts
+pub mod MadeFits
+pub mod StayFacts
+pub mod WorkedFacts
+pub mod GuardFacts

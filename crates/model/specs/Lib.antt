@@ -13,3 +13,6 @@ pub mod Whole
 pub mod Statements
 pub mod Reading
 pub mod Simulation
+pub mod Sample
+pub mod Worked
+pub mod Guards
