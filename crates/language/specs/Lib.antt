@@ -11,3 +11,4 @@ pub mod Equivalence
 pub mod Statements
 pub mod Heads
 pub mod Reading
+pub mod Contents
