@@ -45,7 +45,15 @@ pub fn is_name<S: Source>(src: &S, at: usize, name: &[u8]) -> bool
     ensures { λ r. ⌜ r ≡ same (name-there (bytes (now (src .entry))) at) (now (name .entry)) ⌝ }
 {
     let span = name_span(src, at);
-    same_spans(src, span, &Text { bytes: name }, Span { from: 0, to: name.len() })
+    same_spans(
+        src,
+        span,
+        &Text { bytes: name },
+        Span {
+            from: 0,
+            to: name.len(),
+        },
+    )
 }
 
 // The names at the two places are the same.

@@ -8,6 +8,7 @@ pub mod NodeFacts
 pub mod ExprFacts
 pub mod ProgramFacts
 pub mod Once
+pub mod ContentsFacts
 pub mod SameFacts
 pub mod PackedFacts
 pub mod PlaceFacts

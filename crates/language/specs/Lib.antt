@@ -12,3 +12,4 @@ pub mod Statements
 pub mod Heads
 pub mod Reading
 pub mod Contents
+pub mod Packed

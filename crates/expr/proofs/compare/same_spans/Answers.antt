@@ -11,13 +11,13 @@ pub loop-k-again : need.loop-k-again
 loop-k-again g c =
     c .loop-k .inv
     ∙ parts-more (g .A·Source .bytes (c .args .a .now)) (g .B·Source .bytes (c .args .b .now)) _ _ _ _ (omega arith) (omega arith) (omega arith) (omega arith) (c .loop-k .k)
-        (omega arith) (c .loop-k-test .taken) (sym (c .at .ensures) ∙ c .if-at .left ∙ c .at-in-loop-k .ensures)
+    (omega arith) (c .loop-k-test .taken) (sym (c .at .ensures) ∙ c .if-at .left ∙ c .at-in-loop-k .ensures)
 
 pub returns-then-at : need.returns-then-at
 returns-then-at g c =
     sym (c .loop-k .inv
     ∙ parts-not (g .A·Source .bytes (c .args .a .now)) (g .B·Source .bytes (c .args .b .now)) _ _ _ _ (omega arith) (omega arith) (omega arith) (omega arith) (c .loop-k .k)
-        (omega arith) (c .loop-k-test .taken) (λ e. c .if-at .taken (c .at .ensures ∙ e ∙ sym (c .at-in-loop-k .ensures))))
+    (omega arith) (c .loop-k-test .taken) (λ e. c .if-at .taken (c .at .ensures ∙ e ∙ sym (c .at-in-loop-k .ensures))))
 
 pub returns : need.returns
 returns g c =
