@@ -23,6 +23,11 @@ abbrev pub Within : ℕ → Option ℕ → ℕ → Type 0
 Within low None high = Unit {0}
 Within low (Some j) high = (low ≤ j) × (j ≤ high) × (high < 18446744073709551616)
 
+-- an end that was found lies further on, and within the row if the beginning does
+abbrev pub Onward : ℕ → Option ℕ → ℕ → Type 0
+Onward low None high = Unit {0}
+Onward low (Some j) high = (low ≤ j) × (low ≤ high → j ≤ high)
+
 abbrev pub spelled-in : List ℕ → Span → List ℕ
 spelled-in bs s = between (s .from) (s .to) bs
 

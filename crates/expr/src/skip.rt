@@ -2,7 +2,7 @@
 ghost use lib.ListN.{length};
 ghost use mathlib.Core.Path.{_≡_};
 ghost use Prim.Native.Nat.{_+_};
-ghost use Rattle.expr.specs.Token.{kind-arity, Within};
+ghost use Rattle.expr.specs.Token.{kind-arity, Onward, Within};
 ghost use Rattle.language.specs.Reading.{expr-end, params-end, fun-end, is-program, name-end, times};
 use crate::source::Source;
 use crate::token::Kind;
@@ -60,7 +60,8 @@ pub fn skip<S: Source>(src: &S, at: usize) -> Option<usize>
 
 // Where so many names end, one after the other.
 fn skip_names<S: Source>(src: &S, count: u64, at: usize) -> Option<usize>
-    ensures { λ r. ⌜ r ≡ times count (name-end (bytes (now (src .entry)))) at ⌝ }
+    ensures value { λ r. ⌜ r ≡ times count (name-end (bytes (now (src .entry)))) at ⌝ }
+    ensures within { λ r. ⌜ Onward at r (length (bytes (now (src .entry)))) ⌝ }
 {
     let mut end = at;
     for done in 0..count {
@@ -74,7 +75,8 @@ fn skip_names<S: Source>(src: &S, count: u64, at: usize) -> Option<usize>
 
 // Where a function's own names end, whose count stands there.
 pub fn skip_params<S: Source>(src: &S, at: usize) -> Option<usize>
-    ensures { λ r. ⌜ r ≡ params-end (bytes (now (src .entry))) at ⌝ }
+    ensures value { λ r. ⌜ r ≡ params-end (bytes (now (src .entry))) at ⌝ }
+    ensures within { λ r. ⌜ Within at r (length (bytes (now (src .entry)))) ⌝ }
 {
     let Some(count) = number(src, at) else {
         return None;
@@ -87,7 +89,8 @@ pub fn skip_params<S: Source>(src: &S, at: usize) -> Option<usize>
 
 // Where the function ends that begins there.
 pub fn skip_function<S: Source>(src: &S, at: usize) -> Option<usize>
-    ensures { λ r. ⌜ r ≡ fun-end (bytes (now (src .entry))) at ⌝ }
+    ensures value { λ r. ⌜ r ≡ fun-end (bytes (now (src .entry))) at ⌝ }
+    ensures within { λ r. ⌜ Within at r (length (bytes (now (src .entry)))) ⌝ }
 {
     let Some(params) = skip_name(src, at) else {
         return None;
