@@ -3,8 +3,9 @@ use mathlib.Core.Path.{_≡_, refl, ap, ap₂, sym, _∙_}
 use mathlib.Core.Bool.{Bool, true, false, _&&_}
 use mathlib.Core.List.{List, [], _∷_, _++_}
 use Prim.Native.Nat.{ℕ, zero, suc, _+_, _≤_, _<_}
-use lib.ListN.{length, getD, take, drop}
-use Rattle.std.proofs.shelf.Lists.{append-assoc, at-drop-more, at-drop-all}
+use native.Mathlib.Omega.{arith}
+use lib.ListN.{length, getD, set, take, drop}
+use Rattle.std.proofs.shelf.Lists.{append-assoc, at-drop-more, at-drop-all, drop-more, take-more, set-at, length-take-le, take-all}
 use Rattle.std.proofs.shelf.Tests.{and-parts, and-from}
 use Rattle.language.specs.Basics.{pick, every, each, those, flat}
 
@@ -65,3 +66,14 @@ every-end p xs i h = at-drop-all (every p) xs i h
 pub flat-append : {A B : Type 0} (f : A → List B) (xs ys : List A) → flat f (xs ++ ys) ≡ flat f xs ++ flat f ys
 flat-append f [] ys = refl
 flat-append f (x ∷ xs) ys = ap (λ r. f x ++ r) (flat-append f xs ys) ∙ sym (append-assoc (f x) (flat f xs) (flat f ys))
+
+-- a loop that writes one element after the other over a row
+pub written-more : (xs row old : List ℕ) (k v : ℕ) → k < length xs → k < length old → row ≡ take k xs ++ drop k old → v ≡ getD xs k 0 →
+    set row k v ≡ take (k + 1) xs ++ drop (k + 1) old
+written-more xs row old k v h l e p =
+    ap₂ (λ r w. set r k w) (e ∙ ap (λ t. take k xs ++ t) (drop-more old k 0 l)) p
+    ∙ set-at (take k xs) (getD old k 0) (drop (k + 1) old) (getD xs k 0) k (length-take-le k xs (omega arith))
+    ∙ sym (append-assoc (take k xs) (getD xs k 0 ∷ []) (drop (k + 1) old)) ∙ ap (λ t. t ++ drop (k + 1) old) (sym (take-more xs k 0 h))
+
+pub written-all : (xs row old : List ℕ) (k n : ℕ) → row ≡ take k xs ++ drop k old → length xs ≡ n → k ≡ n → row ≡ xs ++ drop n old
+written-all xs row old k n e l p = e ∙ ap₂ _++_ (take-all k xs (omega arith)) (ap (λ j. drop j old) p)

@@ -1,2 +1,3 @@
 pub mod StepFacts
-pub mod WholeFacts
+pub mod LayoutFacts
+pub mod AnswerFacts

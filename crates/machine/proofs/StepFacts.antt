@@ -1,19 +1,19 @@
 -- What a step tells: misuse changes nothing; otherwise it is the machine's own step. Assumes nothing.
 use mathlib.Core.Path.{_≡_, refl, ap, sym, _∙_, subst}
 use mathlib.Core.Bool.{Bool, true, false, _&&_}
-use mathlib.Core.List.{List}
+use mathlib.Core.List.{List, _++_}
 use Prim.Native.Nat.{ℕ, _≤_, _<_}
 use native.Mathlib.Omega.{arith}
 use lib.Dec.{eqb, leb}
-use lib.ListN.{length, length-replicate}
+use lib.ListN.{length, drop, length-replicate}
 use borrow.Author.Tests.{clash, le-leb, lt-leb}
 use Rattle.std.proofs.shelf.Tests.{and-parts, and-from, and-left, and-right}
 use Rattle.language.specs.Basics.{pick}
 use Rattle.std.specs.declared.option.Option.{Option}
 use Rattle.model.specs.Reading.{Ask, asked}
-use Rattle.model.specs.Engine.{said, next, refused}
+use Rattle.model.specs.Engine.{said, next, shows, done, refused}
 use Rattle.machine.specs.declared.told.Told.{Told}
-use Rattle.machine.specs.declared.told.Told.the-variants.{No}
+use Rattle.machine.specs.declared.told.Told.the-variants.{Shows, Done, No}
 use Rattle.machine.specs.Layout.{memory-words, memory-fits}
 use Rattle.machine.specs.Machine.{stepped, obeyed, by-event, own}
 use Rattle.machine.specs.Told.{event-of, Act-told, Tells, Step-says, step-fits}
@@ -21,6 +21,14 @@ use Rattle.machine.specs.Told.{event-of, Act-told, Tells, Step-says, step-fits
 pub tells-no : (m out : List ℕ) (r : Told) (k : ℕ) → r ≡ No k → Tells (stepped m (refused k)) r out m out
 unfolding Act-told
 tells-no m out r k e = record { memory = refl; act = (e, refl) }
+
+pub tells-done : (m out : List ℕ) → Tells (stepped m done) Done out m out
+unfolding Act-told
+tells-done m out = record { memory = refl; act = (refl, refl) }
+
+pub tells-row : (m out s : List ℕ) (r : Told) (out₁ : List ℕ) → r ≡ Shows (length s) → out₁ ≡ s ++ drop (length s) out → Tells (stepped m (shows s)) r out m out₁
+unfolding Act-told
+tells-row m out s r out₁ e o = record { memory = refl; act = (e, o) }
 
 own-long : length (own .start) ≡ memory-words
 unfolding own

@@ -1,3 +1,4 @@
 pub mod Layout
+pub mod History
 pub mod Machine
 pub mod Told

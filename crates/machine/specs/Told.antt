@@ -10,13 +10,16 @@ use Rattle.model.specs.Engine.{Event, said, next, Act, shows, done, refused, St
 use Rattle.machine.specs.declared.told.Told.{Told}
 use Rattle.machine.specs.declared.told.Told.the-variants.{Shows, Done, No}
 use Rattle.machine.specs.declared.told.Refusal.{Refusal}
-use Rattle.machine.specs.declared.told.Refusal.the-variants.{Misuse, NotACommand, NotKnown}
+use Rattle.machine.specs.declared.told.Refusal.the-variants.{Misuse, NotACommand, NotKnown, Missing, NameTaken, NothingBefore}
 
 -- the number of each refusal
 abbrev pub refusal-number : Refusal → ℕ
 refusal-number Misuse = 0
 refusal-number NotACommand = 1
 refusal-number NotKnown = 2
+refusal-number Missing = 3
+refusal-number NameTaken = 4
+refusal-number NothingBefore = 9
 
 -- kind 0: a command is said; 1: go on
 abbrev pub event-of : ℕ → List ℕ → Event

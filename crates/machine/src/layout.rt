@@ -1,6 +1,11 @@
 // The machine's memory: which word is what.
+ghost use lib.ListN.{take};
+ghost use mathlib.Core.Bool.{true};
 ghost use mathlib.Core.Path.{_≡_};
-ghost use Rattle.machine.specs.Layout.{lengths-fit, memory-fits};
+ghost use Rattle.language.specs.Basics.{flat};
+ghost use Rattle.language.specs.Bytes.{eight};
+ghost use Rattle.machine.specs.Layout.{lengths-fit, memory-fits, held};
+use expr::packed::Packed;
 
 pub const MEMORY_WORDS: usize = 262144;
 // Where the next row of an answer under way begins, plus 1; 0 if none is.
@@ -11,6 +16,19 @@ pub const OLDER: usize = 1;
 pub const LENGTHS: usize = 2;
 
 pub const SLOTS: usize = 9;
+
+// Nine slots of so many words each follow the header.
+pub const SLOT_WORDS: usize = 8192;
+
+pub const CURRENT: usize = 16;
+
+pub const NEWEST_OLDER: usize = CURRENT + SLOT_WORDS;
+
+pub const LAST_SLOT: usize = CURRENT + 8 * SLOT_WORDS;
+// Where a new program is written, and where the frames begin.
+pub const BUILD: usize = CURRENT + 9 * SLOT_WORDS;
+
+pub const FRAMES: usize = BUILD + SLOT_WORDS;
 
 pub const MAX_MARK: u64 = 65537;
 
@@ -43,4 +61,15 @@ pub fn memory_fits(memory: &[u64]) -> bool
         return false;
     }
     lengths_fit(&memory[LENGTHS..LENGTHS + SLOTS])
+}
+
+// The current program's bytes.
+pub(crate) fn current(memory: &[u64]) -> Packed<'_>
+    requires { ⌜ memory-fits (now memory) ≡ true ⌝ }
+    ensures { λ r. ⌜ take (r .len) (flat eight (now (r .words))) ≡ held 0 (now (memory .entry)) ⌝ }
+{
+    Packed {
+        words: &memory[CURRENT..NEWEST_OLDER],
+        len: memory[LENGTHS] as usize + 8,
+    }
 }

@@ -19,6 +19,12 @@ pub enum Refusal {
     Misuse,
     NotACommand,
     NotKnown,
+    // No such function, or nothing at the place.
+    Missing,
+    // A function has that name, or one is called so.
+    NameTaken,
+    // There is no older program.
+    NothingBefore,
 }
 
 pub fn refused(why: Refusal) -> Told
@@ -28,5 +34,8 @@ pub fn refused(why: Refusal) -> Told
         Refusal::Misuse => Told::No(0),
         Refusal::NotACommand => Told::No(1),
         Refusal::NotKnown => Told::No(2),
+        Refusal::Missing => Told::No(3),
+        Refusal::NameTaken => Told::No(4),
+        Refusal::NothingBefore => Told::No(9),
     }
 }

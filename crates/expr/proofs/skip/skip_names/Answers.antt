@@ -4,10 +4,11 @@ use Rattle.language.proofs.ReadingFacts.{times-done, times-none, times-more}
 use Rattle.expr.proofs.skip.skip_names.Needs as need
 
 pub loop-done-again : need.loop-done-again
-loop-done-again g c =
-    ( c .loop-done .inv .0 ∙ times-more _ _ _ _ _ (omega arith) (sym (c .in-Some .ensures tt .value))
-    , omega (arith, c .in-Some .ensures tt .within)
-    , λ h. c .in-Some .ensures tt .within .1 )
+loop-done-again g c = (
+  c .loop-done .inv .0 ∙ times-more _ _ _ _ _ (omega arith) (sym (c .in-Some .ensures tt .value)),
+  omega (arith, c .in-Some .ensures tt .within),
+  λ h. c .in-Some .ensures tt .within .1,
+)
 
 pub returns-in-rest : need.returns-in-rest
 returns-in-rest g c =
