@@ -9,6 +9,7 @@ pub mod ExprFacts
 pub mod ProgramFacts
 pub mod Once
 pub mod ContentsFacts
+pub mod ContentsLaws
 pub mod SameFacts
 pub mod PackedFacts
 pub mod PlaceFacts
