@@ -12,6 +12,7 @@ pub mod ContentsFacts
 pub mod ContentsLaws
 pub mod SameFacts
 pub mod PackedFacts
+pub mod PackedLaws
 pub mod PlaceFacts
 pub mod FreeFacts
 pub mod BareRuns
