@@ -10,6 +10,7 @@ pub mod ProgramFacts
 pub mod Once
 pub mod ContentsFacts
 pub mod ContentsLaws
+pub mod TableFacts
 pub mod SameFacts
 pub mod PackedFacts
 pub mod PackedLaws
