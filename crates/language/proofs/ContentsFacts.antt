@@ -101,7 +101,7 @@ own-no-count bs i j e p =
 
 -- functions' own names, one function after the other
 module _ (bs : List ℕ) (i n m : ℕ) where
-  owns-turn : n ≡ suc m → owns-differ n bs i ≡ (distinct (own-names bs i) && passed (fun-end bs i) (λ k. owns-differ m bs k))
+  pub owns-turn : n ≡ suc m → owns-differ n bs i ≡ (distinct (own-names bs i) && passed (fun-end bs i) (λ k. owns-differ m bs k))
   unfolding owns-differ
   owns-turn e = ap (λ k. owns-differ k bs i) e
 

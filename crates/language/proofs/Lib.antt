@@ -9,8 +9,11 @@ pub mod ExprFacts
 pub mod ProgramFacts
 pub mod Once
 pub mod ContentsFacts
+pub mod ContentsLaws
+pub mod TableFacts
 pub mod SameFacts
 pub mod PackedFacts
+pub mod PackedLaws
 pub mod PlaceFacts
 pub mod FreeFacts
 pub mod BareRuns

@@ -55,6 +55,10 @@ pub or-right-false : (a b : Bool) → or a b ≡ false → b ≡ false
 or-right-false true b h = absurd (clash (sym h))
 or-right-false false b h = h
 
+pub not-or : (a b : Bool) → (not a && not b) ≡ not (or a b)
+not-or true b = refl
+not-or false b = refl
+
 pub has-append : (xs ys : List Name) (x : Name) → has (xs ++ ys) x ≡ or (has xs x) (has ys x)
 has-append [] ys x = refl
 has-append (z ∷ zs) ys x = ap (or (same x z)) (has-append zs ys x) ∙ sym (or-assoc (same x z) (has zs x) (has ys x))

@@ -12,4 +12,5 @@ pub mod Statements
 pub mod Heads
 pub mod Reading
 pub mod Contents
+pub mod Table
 pub mod Packed
