@@ -9,11 +9,11 @@ import argparse
 from collections import Counter
 from pathlib import Path
 
-from cases import damaged, history, limits, randomly, rename, worked
+from cases import damaged, extract, functions, history, inline, limits, randomly, rename, worked
 from model import KNOWN, run_deep
 from session import entries, expected
 
-CASES = (damaged, history, limits, rename, worked, randomly)
+CASES = (damaged, history, limits, rename, functions, extract, inline, worked, randomly)
 
 # All ends that a command can have once it is known.
 OUTCOMES = {

@@ -22,8 +22,7 @@ def as_bytes(name):
     return name.encode() if isinstance(name, str) else name
 
 
-def text_of(name):
-    return texts.name_text(as_bytes(name))
+# What comments say.
 
 
 def place_text(place):
@@ -36,6 +35,42 @@ def ending_text(ending):
     if ending == 1:
         return "no command, 1"
     return "done" if ending == DONE else f"refused, {ending}"
+
+
+def program_text(program):
+    return "; ".join(map(texts.function_text, program)) or "the empty program"
+
+
+def describe(said):
+    """A command in words."""
+    name = texts.name_text(said.function) if hasattr(said, "function") else ""
+    new_name = texts.name_text(said.new_name) if hasattr(said, "new_name") else ""
+    place = place_text(said.place) if hasattr(said, "place") else ""
+    match said:
+        case Load():
+            return f"load {program_text(said.program)}"
+        case Show():
+            return f"show {name}"
+        case Names():
+            return "names"
+        case RenameBind():
+            return f"rename the let of {name} at {place} to {new_name}"
+        case RenameParam():
+            return f"rename own name {said.index} of {name} to {new_name}"
+        case RenameFunction():
+            return f"rename {name} to {new_name}"
+        case Extract():
+            return f"extract what is in {name} at {place} as {new_name}"
+        case InlineBind():
+            return f"put the let of {name} at {place} in place"
+        case InlineCall():
+            return f"put the call of {name} at {place} in place"
+        case TurnIf():
+            return f"turn the if of {name} at {place}"
+        case Drop():
+            return f"drop {name}"
+        case Undo():
+            return "undo"
 
 
 def kind_of(row, ending):
@@ -64,99 +99,81 @@ class Session:
     def write(self, path):
         path.write_text("\n".join(self.lines) + "\n")
 
-    # Commands.
+    # Bytes, commands or not.
 
     def say_line(self, line, row, ends=None):
+        """Bytes, as the line spells them."""
         rows, ending = self.model.say(row)
-        assert ends in (None, ending), f"{self.name}: {ending} and not {ends}: {self.lines[-1]}"
+        assert ends in (None, ending), f"{self.name}: ends {ending} and not {ends}: {line[:200]}"
         self.outcomes[kind_of(row, ending), ending] += 1
         self.lines.append(line)
         return rows, ending
 
     def say(self, row, ends=None):
-        """Bytes, with nothing said about them."""
         return self.say_line(row.hex() or "-", row, ends)
 
     def bytes(self, words, row, ends=None):
-        """Bytes, commands or not, with words that say what they are."""
+        """Bytes under a comment that says what they are and how they end."""
         at = len(self.lines)
-        self.lines.append("")
         rows, ending = self.say(row, ends)
-        self.lines[at] = f"# {words}: {ending_text(ending)}"
-        return rows, ending
+        self.lines.insert(at, f"# {words}: {ending_text(ending)}")
+        return rows
 
-    def command(self, words, said, ends=DONE):
+    # Commands, under a comment that says why they end so.
+
+    def command(self, said, ends=DONE, why=""):
+        words = f"{describe(said)}, {why}" if why else describe(said)
         return self.bytes(words, commands.spelled(said), ends)
 
-    def load(self, text, ends=DONE, words=""):
-        program = texts.program(text)
-        about = "; ".join(map(texts.function_text, program)) or "the empty program"
-        self.command(f"load {words}{about}", Load(program), ends)
+    def load(self, text, ends=DONE, why=""):
+        self.command(Load(texts.program(text)), ends, why)
 
-    def load_tree(self, words, program, ends=DONE):
-        self.command(f"load {words}", Load(program), ends)
+    def load_large(self, words, program, ends=DONE):
+        self.bytes(f"load {words}", commands.spelled(Load(program)), ends)
 
     def show(self, name="main", ends=DONE):
-        words = f"show {text_of(name)}"
-        found = self.model.find(as_bytes(name))
-        if found and len(function_spelled(found)) < 2000:
-            words += f", which is {texts.function_text(found)}"
-        self.command(words, Show(as_bytes(name)), ends)
+        self.command(Show(as_bytes(name)), ends)
 
     def shows(self, text):
         """Show a function, which has to be this."""
         wanted = texts.function(text)
-        rows, _ = self.command(f"show {text_of(wanted.name)}, which is {texts.function_text(wanted)}", Show(wanted.name))
+        rows = self.command(Show(wanted.name), why=f"which is {texts.function_text(wanted)}")
         assert rows == [function_spelled(wanted)], f"{self.name}: {text} is not what is shown"
 
-    def names(self, *expected):
-        rows, _ = self.command("names" + "".join(f" {text_of(name)}" for name in expected), Names())
-        assert not expected or rows == [as_bytes(name) for name in expected], self.name
+    def names(self, *wanted):
+        """Names, which have to be these."""
+        rows = self.command(Names(), why="which are " + (", ".join(wanted) or "none"))
+        assert rows == [as_bytes(name) for name in wanted], f"{self.name}: {wanted} are not the names"
 
-    def no_names(self):
-        rows, _ = self.command("names of the empty program", Names())
-        assert rows == [], self.name
+    def all_names(self):
+        self.command(Names())
 
     def undo(self, ends=DONE):
-        self.command("undo", Undo(), ends)
+        self.command(Undo(), ends)
 
     def rename_bind(self, function, place, new_name, ends=DONE, why=""):
-        words = f"rename the let of {text_of(function)} at {place_text(place)} to {text_of(new_name)}"
-        said = RenameBind(as_bytes(function), tuple(place), as_bytes(new_name))
-        self.command(words + because(why), said, ends)
+        self.command(RenameBind(as_bytes(function), tuple(place), as_bytes(new_name)), ends, why)
 
     def rename_param(self, function, index, new_name, ends=DONE, why=""):
-        words = f"rename own name {index} of {text_of(function)} to {text_of(new_name)}"
-        said = RenameParam(as_bytes(function), index, as_bytes(new_name))
-        self.command(words + because(why), said, ends)
+        self.command(RenameParam(as_bytes(function), index, as_bytes(new_name)), ends, why)
 
     def rename_function(self, function, new_name, ends=DONE, why=""):
-        words = f"rename {text_of(function)} to {text_of(new_name)}"
-        self.command(words + because(why), RenameFunction(as_bytes(function), as_bytes(new_name)), ends)
+        self.command(RenameFunction(as_bytes(function), as_bytes(new_name)), ends, why)
 
     def extract(self, function, place, new_name, ends=DONE, why=""):
-        words = f"extract what is in {text_of(function)} at {place_text(place)} as {text_of(new_name)}"
-        said = Extract(as_bytes(function), tuple(place), as_bytes(new_name))
-        self.command(words + because(why), said, ends)
+        self.command(Extract(as_bytes(function), tuple(place), as_bytes(new_name)), ends, why)
 
     def inline_bind(self, function, place, ends=DONE, why=""):
-        words = f"put the let of {text_of(function)} at {place_text(place)} in place"
-        self.command(words + because(why), InlineBind(as_bytes(function), tuple(place)), ends)
+        self.command(InlineBind(as_bytes(function), tuple(place)), ends, why)
 
     def inline_call(self, function, place, ends=DONE, why=""):
-        words = f"put the call of {text_of(function)} at {place_text(place)} in place"
-        self.command(words + because(why), InlineCall(as_bytes(function), tuple(place)), ends)
+        self.command(InlineCall(as_bytes(function), tuple(place)), ends, why)
 
     def turn_if(self, function, place, ends=DONE, why=""):
-        words = f"turn the if of {text_of(function)} at {place_text(place)}"
-        self.command(words + because(why), TurnIf(as_bytes(function), tuple(place)), ends)
+        self.command(TurnIf(as_bytes(function), tuple(place)), ends, why)
 
     def drop(self, function, ends=DONE, why=""):
-        self.command(f"drop {text_of(function)}" + because(why), Drop(as_bytes(function)), ends)
-
-
-def because(why):
-    return f", {why}" if why else ""
+        self.command(Drop(as_bytes(function)), ends, why)
 
 
 @dataclass

@@ -13,11 +13,11 @@ ALL_KINDS = (
 
 def empty(s):
     s.section("A machine that was told nothing")
-    s.no_names()
+    s.names()
     s.show("main", ends=3)
     s.undo(ends=9)
     s.load("")
-    s.no_names()
+    s.names()
     s.undo(ends=9)
 
 
@@ -34,10 +34,10 @@ def loading(s):
         s.show(name)
     s.show("half", ends=3)
     s.undo(ends=9)
-    s.load(ALL_KINDS, words="the same again: ")
+    s.load(ALL_KINDS, why="the same again")
     s.names("main", "f", "g")
     s.load("")
-    s.no_names()
+    s.names()
     s.show("main", ends=3)
 
 
@@ -48,10 +48,10 @@ def order(s):
     s.load("b() = 3\nc() = 1\na() = 2")
     s.names("b", "c", "a")
     s.shows("c() = 1")
-    s.load("x(x) = x(x)", words="one name for all: ")
+    s.load("x(x) = x(x)", why="one name for all")
     s.names("x")
     s.shows("x(x) = x(x)")
-    s.load("ab() = 1\na() = 2\nabc() = 3", words="names that begin alike: ")
+    s.load("ab() = 1\na() = 2\nabc() = 3", why="names that begin alike")
     s.names("ab", "a", "abc")
     s.shows("a() = 2")
     s.show("abcd", ends=3)
@@ -63,7 +63,7 @@ def wrong_but_loaded(s):
     s.load("main(x) = nowhere(x) + nothing + 1 / 0 + f(1)\nf(a, b) = c")
     s.shows("main(x) = nowhere(x) + nothing + 1 / 0 + f(1)")
     s.shows("f(a, b) = c")
-    s.load("other() = 1", words="no main: ")
+    s.load("other() = 1", why="no main")
     s.show("main", ends=3)
 
 
@@ -72,13 +72,13 @@ def refused_loads(s):
     s.load("main(x) = x")
     s.rename_param("main", 0, "y")
     s.rename_param("main", 0, "z")
-    s.load("f() = 1\nf() = 2", ends=4, words="two functions of one name: ")
-    s.load("f() = 1\ng() = 2\nh() = 3\nf() = 1", ends=4, words="the first and the last of one name: ")
-    s.load("f() = 1\ng() = 2\ng() = 2", ends=4, words="the last two of one name: ")
-    s.load("main(a, a) = 1", ends=4, words="two own names alike: ")
-    s.load("main(a, b, c, a) = 1", ends=4, words="the first and the last own name alike: ")
-    s.load("main(a) = 1\nf(b) = 1\ng(c, d, d) = 1", ends=4, words="two own names of the last function alike: ")
-    s.load("main(a, a) = 1\nmain() = 2", ends=4, words="both: ")
+    s.load("f() = 1\nf() = 2", ends=4, why="two functions of one name")
+    s.load("f() = 1\ng() = 2\nh() = 3\nf() = 1", ends=4, why="the first and the last of one name")
+    s.load("f() = 1\ng() = 2\ng() = 2", ends=4, why="the last two of one name")
+    s.load("main(a, a) = 1", ends=4, why="two own names alike")
+    s.load("main(a, b, c, a) = 1", ends=4, why="the first and the last own name alike")
+    s.load("main(a) = 1\nf(b) = 1\ng(c, d, d) = 1", ends=4, why="two own names of the last function alike")
+    s.load("main(a, a) = 1\nmain() = 2", ends=4, why="both")
     s.shows("main(z) = z")
     s.bytes("undo with a byte too many", b"\x0c\x00", ends=1)
     s.undo()
@@ -96,13 +96,13 @@ def near_misses(s):
     s.names("a", "aa", "aaa", "A")
     s.load("main(a, aa, b, ab) = a")
     s.shows("main(a, aa, b, ab) = a")
-    s.load("main(main, f) = main\nf(main, f) = f", words="own names may be those of functions and of other functions' own: ")
+    s.load("main(main, f) = main\nf(main, f) = f", why="own names may be those of functions and of other functions' own")
     s.names("main", "f")
     near = (Function(b"f\x00", (), Num(1)), Function(b"f", (), Num(2)), Function(b"\x00f", (), Num(3)))
-    s.load_tree("three functions whose names differ by a byte of 0", near)
-    s.names(b"f\x00", b"f", b"\x00f")
-    s.load_tree("the same twice", near + near[1:2], ends=4)
-    s.names(b"f\x00", b"f", b"\x00f")
+    s.load_large("three functions whose names differ by a byte of 0", near)
+    s.all_names()
+    s.load_large("the same twice", near + near[1:2], ends=4)
+    s.all_names()
 
 
 def going_back(s):

@@ -2,7 +2,6 @@
 
 import texts
 from cases.programs import numbered, padded, told
-from commands import Load
 from expressions import Bin, Call, Function, If, Let, Num, Var
 from session import Session
 
@@ -20,8 +19,8 @@ def small_functions(count):
 def many_functions(s):
     s.section("1,024 functions, and 1,025")
     program = small_functions(1024)
-    s.load_tree("1,024 functions f0000() = 0 to f1023() = 1023", program)
-    s.names()
+    s.load_large("1,024 functions f0000() = 0 to f1023() = 1023", program)
+    s.all_names()
     s.shows("f0000() = 0")
     s.shows("f1023() = 1023")
     s.show("f1024", 3)
@@ -36,19 +35,19 @@ def many_functions(s):
     for _ in range(3):
         s.undo()
     s.undo(9)
-    s.command("load 1,025 such functions", Load(small_functions(1025)), ends=1)
+    s.load_large("1,025 such functions", small_functions(1025), ends=1)
     s.shows("f1023() = 1023")
     s.show("f1024", 3)
     alike = program[:-1] + program[:1]
-    s.load_tree("1,024 functions, the last called as the first", alike, ends=4)
+    s.load_large("1,024 functions, the last called as the first", alike, ends=4)
     s.shows("f1023() = 1023")
 
 
 def long_names(s):
     s.section("1,024 functions with names of 32 bytes that differ in the last four, in 65,536 bytes")
     named = tuple(Function(numbered(LONG, number, 4), (), Num(number)) for number in range(1023))
-    s.load_tree("these", padded(named))
-    s.names()
+    s.load_large("these", padded(named))
+    s.all_names()
     s.show(numbered(LONG, 1022, 4))
     s.show(numbered(LONG, 1023, 4), 3)
     s.undo(9)
@@ -59,7 +58,7 @@ def own_names(s):
     names = tuple(numbered(LONG, number, 4) for number in range(16))
     uses = Call(names[0], tuple(Var(name) for name in names))
     program = (Function(b"main", names, uses), Function(names[0], names, Var(names[15])))
-    s.load_tree("main and another, each with 16 own names of 32 bytes", program)
+    s.load_large("main and another, each with 16 own names of 32 bytes", program)
     s.show("main")
     s.show(names[0])
     s.rename_param("main", 15, names[0], 5)
@@ -69,7 +68,7 @@ def own_names(s):
     s.undo(9)
     s.section("17 names free in what is extracted, and 16")
     whole = Let(b"a", Num(0), Call(b"g", tuple(Var(name) for name in names[:15]) + (Bin(0, Var(names[15]), Var(b"a")),)))
-    s.load_tree("main with 16 own names and a let, all used in a call", (Function(b"main", names, whole),))
+    s.load_large("main with 16 own names and a let, all used in a call", (Function(b"main", names, whole),))
     s.extract("main", (1,), "h", 7, "17 names are free in it")
     s.extract("main", (1, 15), "h", why="two names are free in it")
     s.show("main")
@@ -85,8 +84,8 @@ def own_names(s):
 def every_byte(s):
     s.section("Names of every byte value")
     single = tuple(Function(bytes([byte]), (bytes([255 - byte]),), Var(bytes([255 - byte]))) for byte in range(256))
-    s.load_tree("256 functions, each called by one byte, with another for its own name", single)
-    s.names()
+    s.load_large("256 functions, each called by one byte, with another for its own name", single)
+    s.all_names()
     for byte in (0, 10, 13, 32, 127, 128, 255):
         s.show(bytes([byte]))
     s.rename_param(b"\x00", 0, b"\x00")
@@ -94,8 +93,8 @@ def every_byte(s):
     s.undo()
     rows = [bytes(range(start, start + 32)) for start in range(0, 256, 32)]
     body = Let(rows[6], Call(rows[7], (Var(rows[1]),)), Bin(1, Var(rows[6]), Var(rows[5])))
-    s.load_tree("a function whose names have 32 bytes each, and every byte in one of them", (Function(rows[0], tuple(rows[1:6]), body),))
-    s.names(rows[0])
+    s.load_large("a function whose names have 32 bytes each, and every byte in one of them", (Function(rows[0], tuple(rows[1:6]), body),))
+    s.all_names()
     s.show(rows[0])
     s.rename_bind(rows[0], (), rows[5], 5)
     s.rename_bind(rows[0], (), rows[1])
@@ -115,12 +114,12 @@ def all_kinds(depth):
 def largest(s):
     s.section("Exactly 65,536 bytes, and one more")
     program = texts.program(MAIN) + (Function(b"kinds", (b"x",), all_kinds(4)),)
-    s.load_tree("main, f and a function of all kinds, with a function pad that makes it 65,536 bytes", padded(program))
+    s.load_large("main, f and a function of all kinds, with a function pad that makes it 65,536 bytes", padded(program))
     s.names("main", "f", "kinds", "pad")
     for name in ("main", "f", "kinds", "pad"):
         s.show(name)
     s.undo(9)
-    s.command("load it with a tell more", Load(padded(program, 65537)), ends=1)
+    s.load_large("it with a tell more", padded(program, 65537), ends=1)
     s.names("main", "f", "kinds", "pad")
     s.undo(9)
 
@@ -154,7 +153,7 @@ def too_large(s):
 
 def tells(s):
     s.section("65,000 tells in each other")
-    s.load_tree("main(x), which is x told 65,000 times", (Function(b"main", (b"x",), told(65000, Var(b"x"))),))
+    s.load_large("main(x), which is x told 65,000 times", (Function(b"main", (b"x",), told(65000, Var(b"x"))),))
     s.names("main")
     s.show("main")
     s.rename_param("main", 0, "y", why="used at the bottom")
@@ -165,7 +164,7 @@ def tells(s):
 
 def at_the_deepest_place(s):
     s.section("A let under 4,096 tells, which is as deep as a place can say, and under one more")
-    s.load_tree("main(x), 4,096 tells of let a be x in a", (Function(b"main", (b"x",), told(4096, Let(b"a", Var(b"x"), Var(b"a")))),))
+    s.load_large("main(x), 4,096 tells of let a be x in a", (Function(b"main", (b"x",), told(4096, Let(b"a", Var(b"x"), Var(b"a")))),))
     s.rename_bind("main", (0,) * 4096, "b")
     s.show("main")
     s.rename_bind("main", (0,) * 4095, "b", 6)
@@ -173,7 +172,7 @@ def at_the_deepest_place(s):
     s.rename_bind("main", (0,) * 4094 + (1, 0), "b", 3)
     s.undo()
     s.undo(9)
-    s.load_tree("main(x), 4,095 tells of a let", (Function(b"main", (b"x",), told(4095, Let(b"a", Var(b"x"), Var(b"a")))),))
+    s.load_large("main(x), 4,095 tells of a let", (Function(b"main", (b"x",), told(4095, Let(b"a", Var(b"x"), Var(b"a")))),))
     s.rename_bind("main", (0,) * 4096, "b", 6, "the let's first part")
     s.rename_bind("main", (0,) * 4095, "b")
 
@@ -188,7 +187,7 @@ def nested_lets(count, make):
 def many_lets(s):
     s.section("500 lets in each other, in their second parts and in their first")
     down = nested_lets(500, lambda number, body: Let(numbered(b"n", number, 3), Var(b"a"), body))
-    s.load_tree("main(a, b): let n000 be a in let n001 be a in and so on to n499, in a", down)
+    s.load_large("main(a, b): let n000 be a in let n001 be a in and so on to n499, in a", down)
     s.rename_param("main", 0, "c", why="used in each let's first part, and at the bottom")
     s.rename_param("main", 0, "n499", 5, "used under the last let")
     s.rename_bind("main", (1,) * 250, "c", 5)
@@ -197,7 +196,7 @@ def many_lets(s):
     s.undo()
     s.undo()
     s.rename_bind("main", (), "b", why="it has no use")
-    s.load_tree(
+    s.load_large(
         "main(a, b): let a be let a be and so on, 500 lets in each other's first parts, each of which has an a behind",
         nested_lets(500, lambda number, body: Let(b"a", body, Var(b"a"))),
     )
@@ -208,7 +207,7 @@ def many_lets(s):
     s.undo()
     s.undo()
     s.undo(9)
-    s.load_tree(
+    s.load_large(
         "main(a, b): let a be a in let a be a in and so on, 500 lets", nested_lets(500, lambda number, body: Let(b"a", Var(b"a"), body))
     )
     s.rename_param("main", 0, "b", 5)

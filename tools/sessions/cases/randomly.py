@@ -6,7 +6,6 @@ The seed is fixed: the session is the same each time that it is written.
 import random
 
 import commands
-import texts
 from commands import (
     Drop, Extract, InlineBind, InlineCall, Load, Names, RenameBind, RenameFunction, RenameParam, Show, TurnIf, Undo,
 )
@@ -15,7 +14,7 @@ from expressions import (
     Bin, Call, Function, If, Let, Num, Tell, Var, parts,
 )
 from model import CORE
-from session import Session, place_text
+from session import Session, describe
 
 SEED = 23
 COMMANDS = 240
@@ -151,33 +150,17 @@ class Author:
         return bytes(row)
 
 
-def words_of(said):
-    if isinstance(said, Load):
-        return "Load " + "; ".join(map(texts.function_text, said.program))
-    return " ".join([type(said).__name__] + [field_text(value) for value in vars(said).values()])
-
-
-def field_text(value):
-    if isinstance(value, bytes):
-        return texts.name_text(value)
-    return place_text(value) if isinstance(value, tuple) else str(value)
-
-
-def say(s, said):
-    s.bytes(words_of(said), commands.spelled(said))
-
-
 def wander(s, author, classes, count):
     """Commands, a new program now and then, what is shown after each that is done, and damaged bytes between."""
     for number in range(count):
         if number % 8 == 0:
-            say(s, Load(author.program()))
+            s.command(Load(author.program()), ends=None)
         said = author.one_of(classes)
         if author.often(5):
-            s.bytes(f"{words_of(said)}, damaged", author.damaged(commands.spelled(said)))
-        say(s, said)
+            s.bytes(f"{describe(said)}, damaged", author.damaged(commands.spelled(said)))
+        s.command(said, ends=None)
         if hasattr(said, "function") and author.often(60):
-            say(s, Show(said.function))
+            s.command(Show(said.function), ends=None)
 
 
 def session():

@@ -263,7 +263,7 @@ def not_there(s):
 def too_large(s):
     s.section("At 65,536 bytes: too large, a capture, both, neither")
     main = "main(x, y) = let a be x in let bb be y in a + bb"
-    s.load_tree(f"{main}, with a function pad that makes it 65,536 bytes", padded(texts.program(main)))
+    s.load_large(f"{main}, with a function pad that makes it 65,536 bytes", padded(texts.program(main)))
     s.names("main", "pad")
     s.shows(main)
     s.rename_bind("main", (), "aa", 7, "which would be 65,538 bytes")
