@@ -151,7 +151,7 @@ class Author:
 
 
 def wander(s, author, classes, count):
-    """Commands, a new program now and then, what is shown after each that is done, and damaged bytes between."""
+    """Commands, with a new program and damaged bytes now and then, and often a show of what the command was about."""
     for number in range(count):
         if number % 8 == 0:
             s.command(Load(author.program()), ends=None)
