@@ -13,6 +13,7 @@ pub mod ContentsLaws
 pub mod TableFacts
 pub mod SameFacts
 pub mod PackedFacts
+pub mod PasteFacts
 pub mod PackedLaws
 pub mod PlaceFacts
 pub mod FreeFacts

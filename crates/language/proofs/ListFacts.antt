@@ -2,7 +2,7 @@
 use mathlib.Core.Path.{_≡_, refl, ap, ap₂, sym, _∙_}
 use mathlib.Core.Bool.{Bool, true, false, _&&_}
 use mathlib.Core.List.{List, [], _∷_, _++_}
-use Prim.Native.Nat.{ℕ, zero, suc, _+_, _≤_, _<_}
+use Prim.Native.Nat.{ℕ, zero, suc, _+_, _-_, _≤_, _<_}
 use native.Mathlib.Omega.{arith}
 use lib.ListN.{length, getD, set, take, drop}
 use Rattle.std.proofs.shelf.Lists.{append-assoc, at-drop-more, at-drop-all, drop-more, take-more, set-at, length-take-le, take-all}
@@ -81,3 +81,19 @@ written-more xs row old k v h l e p =
 
 pub written-all : (xs row old : List ℕ) (k n : ℕ) → row ≡ take k xs ++ drop k old → length xs ≡ n → k ≡ n → row ≡ xs ++ drop n old
 written-all xs row old k n e l p = e ∙ ap₂ _++_ (take-all k xs (omega arith)) (ap (λ j. drop j old) p)
+
+-- what holds of every element, by its place
+pub every-from : {A : Type 0} (p : A → Bool) (d : A) (xs : List A) → ((k : ℕ) → k < length xs → p (getD xs k d) ≡ true) → every p xs ≡ true
+every-from p d [] h = refl
+every-from p d (x ∷ xs) h = and-from (p x) (every p xs) (h 0 (omega arith)) (every-from p d xs (λ k l. h (suc k) (omega arith)))
+
+pub every-at : {A : Type 0} (p : A → Bool) (d : A) (xs : List A) → every p xs ≡ true → (k : ℕ) → k < length xs → p (getD xs k d) ≡ true
+every-at p d [] h k l = absurd (omega arith)
+every-at p d (x ∷ xs) h zero l = and-parts (p x) (every p xs) h .0
+every-at p d (x ∷ xs) h (suc k) l = every-at p d xs (and-parts (p x) (every p xs) h .1) k (omega arith)
+
+pub take-past : {A : Type 0} (n : ℕ) (xs ys : List A) → length xs ≤ n → take n (xs ++ ys) ≡ xs ++ take (n - length xs) ys
+take-past n [] ys h = ap (λ k. take k ys) (let z : n ≡ n - 0 = omega arith in z)
+take-past zero (x ∷ xs) ys h = absurd (omega arith)
+take-past (suc n) (x ∷ xs) ys h =
+    ap (λ r. x ∷ r) (take-past n xs ys (omega arith) ∙ ap (λ k. xs ++ take k ys) (let z : n - length xs ≡ suc n - suc (length xs) = omega arith in z))

@@ -170,6 +170,9 @@ module _ (bs : List ℕ) (bytes : all-bytes bs ≡ true) where
 pub fun-parts : (f : Fun) → fun-spelled f ≡ with-length (f .name) ++ (params-spelled (f .params) ++ expr-spelled (f .body))
 fun-parts f = simp append-assoc
 
+pub fun-long : (f : Fun) → 0 < length (fun-spelled f)
+fun-long f = omega (arith, ap length (fun-parts f), length-append (with-length (f .name)) (params-spelled (f .params) ++ expr-spelled (f .body)), length-with (f .name))
+
 module _ (bs : List ℕ) (bytes : all-bytes bs ≡ true) where
   three-read : Reads bs (fun-end bs) (λ (p : Name × (List Name × Expr)). with-length (p .0) ++ (params-spelled (p .1 .0) ++ expr-spelled (p .1 .1)))
       (λ p. a-name (p .0) && (some-params (p .1 .0) && an-expr (p .1 .1)))

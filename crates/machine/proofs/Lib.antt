@@ -1,3 +1,10 @@
 pub mod StepFacts
 pub mod LayoutFacts
 pub mod AnswerFacts
+pub mod RegionFacts
+pub mod SizeFacts
+pub mod SteadyFacts
+pub mod HoldsFacts
+pub mod Runs
+pub mod CommandRuns
+pub mod WholeFacts

@@ -2,21 +2,27 @@
 use mathlib.Core.Path.{_≡_, refl, ap, sym, _∙_, subst}
 use mathlib.Core.Bool.{Bool, true, false, _&&_}
 use mathlib.Core.List.{List, _++_}
-use Prim.Native.Nat.{ℕ, _≤_, _<_}
+use Prim.Native.Nat.{ℕ, _-_, _≤_, _<_}
 use native.Mathlib.Omega.{arith}
 use lib.Dec.{eqb, leb}
 use lib.ListN.{length, drop, length-replicate}
-use borrow.Author.Tests.{clash, le-leb, lt-leb}
+use borrow.Author.Tests.{le-leb, lt-leb, eq-eqb, ne-eqb}
 use Rattle.std.proofs.shelf.Tests.{and-parts, and-from, and-left, and-right}
 use Rattle.language.specs.Basics.{pick}
+use denote.Ref.{now}
 use Rattle.std.specs.declared.option.Option.{Option}
+use Rattle.std.specs.declared.option.Option.the-variants.{Some}
+use Rattle.wire.specs.declared.request.Request.{Request}
+use Rattle.wire.specs.declared.request.Request.the-variants.{Load, Show, Names, RenameBind, RenameParam, RenameFunction, Extract, InlineBind, InlineCall, TurnIf, DropFunction, Undo}
+use Rattle.wire.specs.Request.{request-asks}
+use Rattle.model.proofs.AskedFacts.{asked-program}
 use Rattle.model.specs.Reading.{Ask, asked}
 use Rattle.model.specs.Engine.{said, next, shows, done, refused}
 use Rattle.machine.specs.declared.told.Told.{Told}
 use Rattle.machine.specs.declared.told.Told.the-variants.{Shows, Done, No}
-use Rattle.machine.specs.Layout.{memory-words, memory-fits}
-use Rattle.machine.specs.Machine.{stepped, obeyed, by-event, own}
-use Rattle.machine.specs.Told.{event-of, Act-told, Tells, Step-says, step-fits}
+use Rattle.machine.specs.Layout.{memory-words, mark, memory-fits}
+use Rattle.machine.specs.Machine.{stepped, ask-step, names-step, gone-on, obeyed, by-event, own}
+use Rattle.machine.specs.Told.{event-of, Act-told, Loadable, Tells, Step-says, step-fits}
 
 pub tells-no : (m out : List ℕ) (r : Told) (k : ℕ) → r ≡ No k → Tells (stepped m (refused k)) r out m out
 unfolding Act-told
@@ -74,3 +80,30 @@ module _ (m : List ℕ) (kind : ℕ) (text out : List ℕ) (r : Told) (m₁ out�
 -- what a text asks for, by what was read
 pub obeyed-as : (m text : List ℕ) (a : Option Ask) (r : Told) (out m₁ out₁ : List ℕ) → a ≡ asked text → Tells (obeyed m a) r out m₁ out₁ → Tells (obeyed m (asked text)) r out m₁ out₁
 obeyed-as m text a r out m₁ out₁ e s = subst (λ b. Tells (obeyed m b) r out m₁ out₁) e s
+
+pub answered-as : (m : List ℕ) (q p : Request) (r : Told) (out m₁ out₁ : List ℕ) → q ≡ p → Tells (ask-step m (request-asks p)) r out m₁ out₁ → Tells (ask-step m (request-asks q)) r out m₁ out₁
+answered-as m q p r out m₁ out₁ e s = subst (λ t. Tells (ask-step m (request-asks t)) r out m₁ out₁) (sym e) s
+
+-- what was read to be loaded is a program's spelling
+pub loadable : (text : List ℕ) (q : Request) → Some (request-asks q) ≡ asked text → Loadable q
+loadable text (Load p) e = asked-program text (now p) (sym e)
+loadable text (Show f) e = tt
+loadable text Names e = tt
+loadable text (RenameBind t y) e = tt
+loadable text (RenameParam f i y) e = tt
+loadable text (RenameFunction f g) e = tt
+loadable text (Extract t g) e = tt
+loadable text (InlineBind t) e = tt
+loadable text (InlineCall t) e = tt
+loadable text (TurnIf t) e = tt
+loadable text (DropFunction f) e = tt
+loadable text Undo e = tt
+
+-- going on
+pub on-none : (m out : List ℕ) (r : Told) → mark m ≡ 0 → r ≡ No 0 → Tells (gone-on m) r out m out
+unfolding gone-on
+on-none m out r e n = subst (λ t. Tells (pick t (stepped m (refused 0)) (names-step m (mark m - 1))) r out m out) (sym (eq-eqb (mark m) 0 e)) (tells-no m out r 0 n)
+
+pub on-next : (m out : List ℕ) (r : Told) (m₁ out₁ : List ℕ) → (mark m ≡ 0 → ⊥) → Tells (names-step m (mark m - 1)) r out m₁ out₁ → Tells (gone-on m) r out m₁ out₁
+unfolding gone-on
+on-next m out r m₁ out₁ e s = subst (λ t. Tells (pick t (stepped m (refused 0)) (names-step m (mark m - 1))) r out m₁ out₁) (sym (ne-eqb (mark m) 0 e)) s

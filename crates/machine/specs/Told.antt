@@ -7,6 +7,10 @@ use lib.Dec.{eqb, leb}
 use lib.ListN.{length, drop}
 use Rattle.language.specs.Basics.{pick}
 use Rattle.model.specs.Engine.{Event, said, next, Act, shows, done, refused, Step, Engine}
+use denote.Ref.{now}
+use Rattle.language.specs.Reading.{is-program}
+use Rattle.wire.specs.declared.request.Request.{Request}
+use Rattle.wire.specs.declared.request.Request.the-variants.{Load, Show, Names, RenameBind, RenameParam, RenameFunction, Extract, InlineBind, InlineCall, TurnIf, DropFunction, Undo}
 use Rattle.machine.specs.declared.told.Told.{Told}
 use Rattle.machine.specs.declared.told.Told.the-variants.{Shows, Done, No}
 use Rattle.machine.specs.declared.told.Refusal.{Refusal}
@@ -43,3 +47,18 @@ Step-says e memory kind text out false r memory₁ out₁ = (r ≡ No 0) × (mem
 
 abbrev pub step-fits : Engine → (memory : List ℕ) (kind : ℕ) (out : List ℕ) → Bool
 step-fits e memory kind out = eqb (length memory) (length (e .start)) && (leb kind 1 && leb 131072 (length out))
+
+-- what is asked to be loaded is a program's spelling
+abbrev pub Loadable : Request → Type 0
+Loadable (Load p) = is-program (now p) ≡ true
+Loadable (Show f) = Unit {0}
+Loadable Names = Unit {0}
+Loadable (RenameBind t y) = Unit {0}
+Loadable (RenameParam f i y) = Unit {0}
+Loadable (RenameFunction f g) = Unit {0}
+Loadable (Extract t g) = Unit {0}
+Loadable (InlineBind t) = Unit {0}
+Loadable (InlineCall t) = Unit {0}
+Loadable (TurnIf t) = Unit {0}
+Loadable (DropFunction f) = Unit {0}
+Loadable Undo = Unit {0}

@@ -322,3 +322,10 @@ asked-said text a e =
     of (k ∷ bs) bytes e =
         let w = kind-was k bs (and-parts (ltb k 256) (all-bytes bs) bytes .1) a e in
         (w .0, (w .1, w .2), w .3)
+
+-- what a text asks to load is a program's spelling
+pub asked-program : (text bs : List ℕ) → asked text ≡ Some (loading bs) → is-program bs ≡ true
+unfolding Asks
+asked-program text bs e =
+    let p = asked-said text (loading bs) e .2 in
+    ap is-program (sym (p .1)) ∙ program-read (p .0) (bytes-program (p .0) (p .2)) (p .2)
