@@ -1,3 +1,4 @@
 pub mod StepFacts
 pub mod LayoutFacts
 pub mod AnswerFacts
+pub mod LoadFacts

@@ -2,6 +2,7 @@
 mod answers;
 mod history;
 pub mod layout;
+mod load;
 mod rows;
 pub mod step;
 pub mod told;
