@@ -1,23 +1,35 @@
 -- Loading: names that come to numbers, tables and words that are written one after the other, and what a load tells. Assumes nothing.
-use mathlib.Core.Path.{_≡_, refl, ap, ap₂, sym, _∙_}
+use mathlib.Core.Path.{_≡_, refl, ap, ap₂, sym, _∙_, subst}
 use mathlib.Core.Bool.{Bool, true, false, _&&_}
 use mathlib.Core.List.{List, [], _∷_, _++_}
 use Prim.Native.Nat.{ℕ, suc, _+_, _-_, _*_, _/_, _%_, _≤_, _<_}
 use native.Mathlib.Omega.{arith}
+use lib.Dec.{leb}
 use lib.ListN.{length, getD, set, take, drop}
+use borrow.Author.Tests.{clash, leb-true}
 use borrow.Rule.Slice.PartMut.{putMid}
 use Rattle.std.specs.declared.option.Option.the-variants.{Some, None}
 use Rattle.std.specs.Holes.{between}
+use Rattle.std.specs.shelf.Digits.{number}
 use Rattle.std.proofs.shelf.Edits.{length-between, getD-between}
-use Rattle.std.proofs.shelf.Lists.{append-nil, length-append, length-take, length-drop, length-replicate, drop-drop}
+use Rattle.std.proofs.shelf.Lists.{append-nil, append-assoc, length-append, length-take, length-drop, length-replicate, take-append-drop, drop-append-le, drop-drop}
 use Rattle.std.proofs.shelf.Parts.{take-putMid-below, drop-putMid}
-use Rattle.language.specs.Reading.{number-at, name-end, fun-end}
+use Rattle.std.proofs.shelf.Tests.{and-parts}
+use Rattle.language.specs.Basics.{pick}
+use Rattle.language.specs.Reading.{number-at, name-end, fun-end, funs-fill, is-program}
 use Rattle.language.specs.Contents.{listed, passed, name-there, owns-differ, names-differ, is-fine}
 use Rattle.language.specs.Packed.{word-of}
 use Rattle.language.specs.Table.{hashed, hash, table-from, none-like, all-differ}
 use Rattle.language.proofs.ReadingFacts.{number-eight}
 use Rattle.language.proofs.TableFacts.{hashed-more, hashed-end, table-none, table-no-name, table-cut, table-grown, entry-written, table-law}
+use Rattle.model.specs.Engine.{done, refused}
+use Rattle.machine.specs.declared.told.Told.{Told}
+use Rattle.machine.specs.declared.told.Told.the-variants.{Done, No}
 use Rattle.machine.specs.Layout.{zero-words, put-words}
+use Rattle.machine.specs.History.{loaded}
+use Rattle.machine.specs.Machine.{stepped, table-cleared, load-step}
+use Rattle.machine.specs.Told.{Tells}
+use Rattle.machine.proofs.StepFacts.{tells-no, tells-done}
 
 pub word-is : (bs : List ℕ) (k : ℕ) → word-of bs k ≡
     getD bs (k * 8) 0 * 72057594037927936 + getD bs (k * 8 + 1) 0 * 281474976710656 + getD bs (k * 8 + 2) 0 * 1099511627776 + getD bs (k * 8 + 3) 0 * 4294967296
@@ -98,6 +110,33 @@ module _ (bs : List ℕ) (n : ℕ) (count : Some n ≡ number-at bs 0) (t : List
   pub fine-if : (r : Bool) → true ≡ all-differ bs t → r ≡ owns-differ n bs 8 → r ≡ is-fine bs
   fine-if r e f = f ∙ sym (fine-is ∙ ap (λ b. b && owns-differ n bs 8) (sym e))
 
+-- a program's spelling is short, and has its count
+module _ (bs : List ℕ) (fit : is-program bs ≡ true) where
+  parts : (leb (length bs) 65536 ≡ true) × (funs-fill bs (number-at bs 0) ≡ true)
+  parts = and-parts (leb (length bs) 65536) (funs-fill bs (number-at bs 0)) fit
+
+  pub program-short : length bs ≤ 65536
+  program-short = leb-true _ _ (parts .0)
+
+  pub program-counted : 8 ≤ length bs
+  program-counted = go (leb 8 (length bs)) refl (parts .1)
+    where
+      go : (t : Bool) → leb 8 (length bs) ≡ t → funs-fill bs (pick t (Some (number 256 (take 8 (drop 0 bs)))) None) ≡ true → 8 ≤ length bs
+      go true e h = leb-true _ _ e
+      go false e h = absurd (clash h)
+
+-- what is left of a part, and what lies behind it
+rest-of-part : (n k : ℕ) (l : List ℕ) → n ≤ k → k ≤ length l → drop n (take k l) ++ drop k l ≡ drop n l
+rest-of-part n k l short room =
+    sym (drop-append-le n (take k l) (drop k l) (omega (arith, length-take k l))) ∙ ap (drop n) (take-append-drop k l)
+
+-- words at the beginning of a part of a row are words put over the row's
+pub put-in-part : (a k n : ℕ) (m ws part : List ℕ) → a + k ≤ length m → n ≤ k → length ws ≡ n → part ≡ ws ++ drop n (take k (drop a m)) → putMid a k m part ≡ put-words m a ws
+put-in-part a k n m ws part room short long e =
+    ap (putMid a k m) e
+    ∙ ap (λ r. take a m ++ r) (append-assoc ws (drop n (take k (drop a m))) (drop k (drop a m)))
+    ∙ ap (λ r. take a m ++ (ws ++ r)) (rest-of-part n k (drop a m) short (omega (arith, length-drop a m)) ∙ drop-drop n a m ∙ ap (λ l. drop (a + l) m) (sym long))
+
 -- a part that was written over and then made zeros is zeros put over the row
 module _ (a k : ℕ) (m part : List ℕ) (room : a + k ≤ length m) (long : length part ≡ k) where
   part-long : length (take k (drop a (putMid a k m part))) ≡ k
@@ -116,3 +155,17 @@ module _ (a k : ℕ) (m part : List ℕ) (room : a + k ≤ length m) (long : len
       ap₂ (λ f r. f ++ (zs ++ r)) (take-putMid-below a k m part a (omega arith) (omega arith))
       (drop-drop k a (putMid a k m part) ∙ drop-putMid a k m part (a + k) (omega arith) (omega arith) long)
       ∙ ap₂ (λ z n. take a m ++ (z ++ drop (a + n) m)) (e ∙ ap zero-words part-long) (sym (length-replicate k 0))
+
+-- a load, by whether names differ
+module _ (m bs out m₁ : List ℕ) where
+  pub load-refused : (r : Told) → false ≡ is-fine bs → m₁ ≡ table-cleared m → r ≡ No 4 → Tells (load-step m bs) r out m₁ out
+  unfolding load-step
+  load-refused r f e n =
+      subst (λ t. Tells (pick t (stepped (loaded (table-cleared m) bs) done) (stepped (table-cleared m) (refused 4))) r out m₁ out) f
+      (subst (λ l. Tells (stepped l (refused 4)) r out m₁ out) e (tells-no m₁ out r 4 n))
+
+  pub load-done : (c : List ℕ) → true ≡ is-fine bs → c ≡ table-cleared m → m₁ ≡ loaded c bs → Tells (load-step m bs) Done out m₁ out
+  unfolding load-step
+  load-done c f e n =
+      subst (λ t. Tells (pick t (stepped (loaded (table-cleared m) bs) done) (stepped (table-cleared m) (refused 4))) Done out m₁ out) f
+      (subst (λ l. Tells (stepped l done) Done out m₁ out) (n ∙ ap (λ l. loaded l bs) e) (tells-done m₁ out))

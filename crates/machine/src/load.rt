@@ -10,9 +10,18 @@ ghost use Rattle.language.specs.Packed.{words-for, word-of, packed};
 ghost use Rattle.language.specs.Reading.{is-program};
 ghost use Rattle.language.specs.Table.{hash, table-from, all-differ};
 ghost use Rattle.machine.specs.Entries.{none-after};
-ghost use Rattle.machine.specs.Layout.{memory-words};
-ghost use Rattle.machine.specs.Machine.{table-cleared};
+ghost use Rattle.machine.specs.History.{loaded};
+ghost use Rattle.machine.specs.Layout.{memory-words, memory-fits};
+ghost use Rattle.machine.specs.Machine.{table-cleared, load-step};
+ghost use Rattle.machine.specs.Told.{Tells};
+use crate::layout::CURRENT;
 use crate::layout::FRAMES;
+use crate::layout::LENGTHS;
+use crate::layout::NEWEST_OLDER;
+use crate::layout::OLDER;
+use crate::told::Refusal;
+use crate::told::Told;
+use crate::told::refused;
 use expr::compare::same_names;
 use expr::skip::skip_function;
 use expr::source::Source;
@@ -144,4 +153,26 @@ fn names_differ(memory: &mut [u64], program: &[u8]) -> bool
     let fine = is_fine(&src, &mut memory[FRAMES..FRAMES + TABLE_WORDS]);
     memory[FRAMES..FRAMES + TABLE_WORDS].fill(0);
     fine
+}
+
+// The program is the current one, and there is nothing to go back to.
+fn store(memory: &mut [u64], program: &[u8])
+    requires { ⌜ length (now memory) ≡ memory-words ⌝ ∗ ⌜ is-program (now program) ≡ true ⌝ }
+    ensures { λ _. ⌜ now (memory .exit) ≡ loaded (now (memory .entry)) (now (program .entry)) ⌝ }
+{
+    pack(&mut memory[CURRENT..NEWEST_OLDER], program);
+    memory[OLDER] = 0;
+    memory[LENGTHS] = program.len() as u64 - 8;
+}
+
+// The program becomes the current one if its names differ.
+pub fn load(memory: &mut [u64], program: &[u8], out: &mut [u8]) -> Told
+    requires { ⌜ memory-fits (now memory) ≡ true ⌝ ∗ ⌜ is-program (now program) ≡ true ⌝ }
+    ensures { λ r. ⌜ Tells (load-step (now (memory .entry)) (now (program .entry))) r (now (out .entry)) (now (memory .exit)) (now (out .exit)) ⌝ }
+{
+    if !names_differ(memory, program) {
+        return refused(Refusal::NameTaken);
+    }
+    store(memory, program);
+    Told::Done
 }
