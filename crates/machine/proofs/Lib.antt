@@ -8,3 +8,4 @@ pub mod HoldsFacts
 pub mod Runs
 pub mod CommandRuns
 pub mod WholeFacts
+pub mod LoadFacts

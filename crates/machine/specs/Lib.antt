@@ -2,3 +2,4 @@ pub mod Layout
 pub mod History
 pub mod Machine
 pub mod Told
+pub mod Entries
