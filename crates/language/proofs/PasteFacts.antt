@@ -12,10 +12,11 @@ pub part-same : (xs ys : List ℕ) (i j c : ℕ) → i + c ≤ length xs → j +
     take c (drop i xs) ≡ take c (drop j ys)
 part-same xs ys i j c h l e =
     ext-getD 0 (take c (drop i xs)) (take c (drop j ys)) (long-x ∙ sym long-y)
-      (λ k b. getD-take c (drop i xs) k 0 (omega (arith, long-x)) ∙ getD-drop i xs k 0 ∙ e k (omega (arith, long-x)) ∙ sym (getD-take c (drop j ys) k 0 (omega (arith, long-x)) ∙ getD-drop j ys k 0))
+    (λ k b. getD-take c (drop i xs) k 0 (omega (arith, long-x)) ∙ getD-drop i xs k 0 ∙ e k (omega (arith, long-x)) ∙ sym (getD-take c (drop j ys) k 0 (omega (arith, long-x)) ∙ getD-drop j ys k 0))
   where
     long-x : length (take c (drop i xs)) ≡ c
     long-x = length-take-le c (drop i xs) (omega (arith, length-drop i xs))
+
     long-y : length (take c (drop j ys)) ≡ c
     long-y = length-take-le c (drop j ys) (omega (arith, length-drop j ys))
 

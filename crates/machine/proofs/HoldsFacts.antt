@@ -28,24 +28,24 @@ pub record Holds (m : List ℕ) (w : Plain) : Type 0 where
 -- whatever the mark is
 pub holds-marked : (m : List ℕ) (w : Plain) (v : ℕ) → v ≤ 65537 → Holds m w → Holds (set m 0 v) w
 holds-marked m w v low h =
-    record
-      { fits = fits-marked m v low (h .fits)
-      ; now-held = held-set m 0 v 0 (omega arith) (omega arith) ∙ h .now-held
-      ; count = getD-set-other m 0 1 v 0 (omega arith) ∙ h .count
-      ; before-held = λ k l. held-set m 0 v (suc k) (omega arith) (omega arith) ∙ h .before-held k l
-      ; sound = h .sound
-      }
+    record {
+      fits = fits-marked m v low (h .fits);
+      now-held = held-set m 0 v 0 (omega arith) (omega arith) ∙ h .now-held;
+      count = getD-set-other m 0 1 v 0 (omega arith) ∙ h .count;
+      before-held = λ k l. held-set m 0 v (suc k) (omega arith) (omega arith) ∙ h .before-held k l;
+      sound = h .sound;
+    }
 
 -- zeros hold the empty program, and nothing to go back to
 zeros-fit : (n : ℕ) → n ≡ memory-words → memory-fits (zero-words n) ≡ true
 zeros-fit n e =
     words-fit (zero-words n)
-      (record
-        { long = length-replicate {A = ℕ} n 0 ∙ e
-        ; mark-low = omega (arith, word 0 (omega arith))
-        ; few = omega (arith, word 1 (omega arith))
-        ; short = λ k l. omega (arith, word (2 + k) (omega arith))
-        })
+    (record {
+      long = length-replicate {A = ℕ} n 0 ∙ e;
+      mark-low = omega (arith, word 0 (omega arith));
+      few = omega (arith, word 1 (omega arith));
+      short = λ k l. omega (arith, word (2 + k) (omega arith));
+    })
   where
     word : (i : ℕ) → i < n → getD (zero-words n) i 0 ≡ 0
     word i h = getD-replicate {A = ℕ} n i 0 0 h
@@ -65,10 +65,10 @@ zeros-held n e =
 pub holds-start : Holds (own .start) at-first
 unfolding own
 holds-start =
-    record
-      { fits = zeros-fit memory-words refl
-      ; now-held = zeros-held memory-words refl ∙ sym (append-nil (eight 0))
-      ; count = getD-replicate {A = ℕ} memory-words 1 0 0 (omega arith)
-      ; before-held = λ k l. absurd (omega arith)
-      ; sound = sound-start
-      }
+    record {
+      fits = zeros-fit memory-words refl;
+      now-held = zeros-held memory-words refl ∙ sym (append-nil (eight 0));
+      count = getD-replicate {A = ℕ} memory-words 1 0 0 (omega arith);
+      before-held = λ k l. absurd (omega arith);
+      sound = sound-start;
+    }

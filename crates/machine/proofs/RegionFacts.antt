@@ -39,19 +39,19 @@ fit-words m h =
     let q = and-parts (leb (mark m) 65537 && leb (older m) 8) (lengths-fit (lengths m)) (p .1) in
     let r = and-parts (leb (mark m) 65537) (leb (older m) 8) (q .0) in
     let long = memory-long m h in
-    record
-      { long = long
-      ; mark-low = leb-true (mark m) 65537 (r .0)
-      ; few = leb-true (older m) 8 (r .1)
-      ; short = λ k l.
-          omega (arith, leb-true (getD (lengths m) k 0) 65528 (every-at (λ n. leb n 65528) 0 (lengths m) (q .1) k (omega (arith, length-take-le 9 (drop 2 m) (omega (arith, length-drop 2 m))))), length-at m k l)
-      }
+    record {
+      long = long;
+      mark-low = leb-true (mark m) 65537 (r .0);
+      few = leb-true (older m) 8 (r .1);
+      short = λ k l.
+          omega (arith, leb-true (getD (lengths m) k 0) 65528 (every-at (λ n. leb n 65528) 0 (lengths m) (q .1) k (omega (arith, length-take-le 9 (drop 2 m) (omega (arith, length-drop 2 m))))), length-at m k l);
+    }
 
 pub words-fit : (m : List ℕ) → Fit-words m → memory-fits m ≡ true
 words-fit m w =
     and-from _ _ (eq-eqb (length m) memory-words (w .long))
-      (and-from _ _ (and-from _ _ (le-leb (mark m) 65537 (w .mark-low)) (le-leb (older m) 8 (w .few)))
-        (every-from (λ n. leb n 65528) 0 (lengths m) (λ k l. le-leb (getD (lengths m) k 0) 65528 (omega (arith, length-at m k (nine k l), w .short k (nine k l))))))
+    (and-from _ _ (and-from _ _ (le-leb (mark m) 65537 (w .mark-low)) (le-leb (older m) 8 (w .few)))
+    (every-from (λ n. leb n 65528) 0 (lengths m) (λ k l. le-leb (getD (lengths m) k 0) 65528 (omega (arith, length-at m k (nine k l), w .short k (nine k l))))))
   where
     nine : (k : ℕ) → k < length (lengths m) → k < 9
     nine k l = omega (arith, length-take-le 9 (drop 2 m) (omega (arith, length-drop 2 m, w .long)))
@@ -72,12 +72,12 @@ pub fits-marked : (m : List ℕ) (v : ℕ) → v ≤ 65537 → memory-fits m ≡
 fits-marked m v h f =
     let w = fit-words m f in
     words-fit (set m 0 v)
-      (record
-        { long = length-set m 0 v ∙ w .long
-        ; mark-low = omega (arith, getD-set-same m 0 v 0 (omega (arith, w .long)))
-        ; few = omega (arith, getD-set-other m 0 1 v 0 (omega arith), w .few)
-        ; short = λ k l. omega (arith, getD-set-other m 0 (2 + k) v 0 (omega arith), w .short k l)
-        })
+    (record {
+      long = length-set m 0 v ∙ w .long;
+      mark-low = omega (arith, getD-set-same m 0 v 0 (omega (arith, w .long)));
+      few = omega (arith, getD-set-other m 0 1 v 0 (omega arith), w .few);
+      short = λ k l. omega (arith, getD-set-other m 0 (2 + k) v 0 (omega arith), w .short k l);
+    })
 
 -- lengths and slots moved down by one
 module _ (m : List ℕ) (long : length m ≡ memory-words) where
@@ -128,7 +128,7 @@ module _ (m : List ℕ) (long : length m ≡ memory-words) where
   pub down-slot : (k : ℕ) → k < 8 → slot k (moved-down m) ≡ slot (suc k) m
   down-slot k h =
       part-same (moved-down m) m (16 + k * 8192) (16 + suc k * 8192) 8192 (omega (arith, down-long)) (omega (arith, long))
-        (λ j l. down-word (16 + k * 8192 + j) (omega arith) (omega arith) ∙ ap (λ i. getD m i 0) (let z : 16 + k * 8192 + j + 8192 ≡ 16 + suc k * 8192 + j = omega arith in z))
+      (λ j l. down-word (16 + k * 8192 + j) (omega arith) (omega arith) ∙ ap (λ i. getD m i 0) (let z : 16 + k * 8192 + j + 8192 ≡ 16 + suc k * 8192 + j = omega arith in z))
 
   pub down-held : (k : ℕ) → k < 8 → held k (moved-down m) ≡ held (suc k) m
   down-held k h = held-same m (moved-down m) k (suc k) (down-length k h) (down-slot k h)
@@ -148,21 +148,25 @@ pub back-fits : (m : List ℕ) → memory-fits m ≡ true → memory-fits (gone-
 unfolding gone-back
 back-fits m f =
     words-fit (moved-down n)
-      (record
-        { long = down-long n long
-        ; mark-low = omega (arith, down-front n long 0 (omega arith), getD-set-other m 1 0 (older m - 1) 0 (omega arith), w .mark-low)
-        ; few = omega (arith, down-front n long 1 (omega arith), getD-set-same m 1 (older m - 1) 0 (omega (arith, w .long)), w .few)
-        ; short = short
-        })
+    (record {
+      long = down-long n long;
+      mark-low = omega (arith, down-front n long 0 (omega arith), getD-set-other m 1 0 (older m - 1) 0 (omega arith), w .mark-low);
+      few = omega (arith, down-front n long 1 (omega arith), getD-set-same m 1 (older m - 1) 0 (omega (arith, w .long)), w .few);
+      short = short;
+    })
   where
     n : List ℕ
     n = set m 1 (older m - 1)
+
     w : Fit-words m
     w = fit-words m f
+
     long : length (set m 1 (older m - 1)) ≡ memory-words
     long = length-set m 1 (older m - 1) ∙ memory-long m f
+
     other : (k : ℕ) → getD (set m 1 (older m - 1)) (2 + k) 0 ≡ getD m (2 + k) 0
     other k = getD-set-other m 1 (2 + k) (older m - 1) 0 (omega arith)
+
     below : (k : ℕ) → k < 9 → (t : Bool) → leb 8 k ≡ t → getD (moved-down (set m 1 (older m - 1))) (2 + k) 0 ≤ 65528
     below k l true e =
         let is : 8 ≡ k = omega (arith, leb-true 8 k e) in
@@ -170,6 +174,7 @@ back-fits m f =
     below k l false e =
         let low : k < 8 = omega (arith, leb-false 8 k e) in
         omega (arith, down-length (set m 1 (older m - 1)) long k low, other (suc k), w .short (suc k) (omega arith))
+
     short : (k : ℕ) → k < 9 → getD (moved-down (set m 1 (older m - 1))) (2 + k) 0 ≤ 65528
     short k l = below k l (leb 8 k) refl
 
@@ -197,18 +202,18 @@ cleared-word m long k h = put-low m frames-at (zero-words 2048) (omega (arith, l
 pub cleared-held : (m : List ℕ) → length m ≡ memory-words → (k : ℕ) → k < 9 → held k (table-cleared m) ≡ held k m
 cleared-held m long k h =
     held-same m (table-cleared m) k k (cleared-word m long (2 + k) (omega arith))
-      (part-same (table-cleared m) m (16 + k * 8192) (16 + k * 8192) 8192 (omega (arith, cleared-long m long)) (omega (arith, long)) (λ j l. cleared-word m long (16 + k * 8192 + j) (omega arith)))
+    (part-same (table-cleared m) m (16 + k * 8192) (16 + k * 8192) 8192 (omega (arith, cleared-long m long)) (omega (arith, long)) (λ j l. cleared-word m long (16 + k * 8192 + j) (omega arith)))
 
 pub cleared-fits : (m : List ℕ) → memory-fits m ≡ true → memory-fits (table-cleared m) ≡ true
 cleared-fits m f =
     let w = fit-words m f in
     words-fit (table-cleared m)
-      (record
-        { long = cleared-long m (w .long)
-        ; mark-low = omega (arith, cleared-word m (w .long) 0 (omega arith), w .mark-low)
-        ; few = omega (arith, cleared-word m (w .long) 1 (omega arith), w .few)
-        ; short = λ k l. omega (arith, cleared-word m (w .long) (2 + k) (omega arith), w .short k l)
-        })
+    (record {
+      long = cleared-long m (w .long);
+      mark-low = omega (arith, cleared-word m (w .long) 0 (omega arith), w .mark-low);
+      few = omega (arith, cleared-word m (w .long) 1 (omega arith), w .few);
+      short = λ k l. omega (arith, cleared-word m (w .long) (2 + k) (omega arith), w .short k l);
+    })
 
 -- a program that is loaded is held
 module _ (m : List ℕ) (bs : List ℕ) (f : memory-fits m ≡ true) (low : 8 ≤ length bs) (high : length bs ≤ 65536) (bytes : all-bytes bs ≡ true) where
@@ -266,9 +271,9 @@ module _ (m : List ℕ) (bs : List ℕ) (f : memory-fits m ≡ true) (low : 8 �
   pub loaded-fits : memory-fits (loaded m bs) ≡ true
   loaded-fits =
       words-fit (loaded m bs)
-        (record
-          { long = loaded-long
-          ; mark-low = omega (arith, loaded-word 0 (omega arith) (omega arith) (omega arith), fit-words m f .mark-low)
-          ; few = omega (arith, loaded-older)
-          ; short = loaded-short
-          })
+      (record {
+        long = loaded-long;
+        mark-low = omega (arith, loaded-word 0 (omega arith) (omega arith) (omega arith), fit-words m f .mark-low);
+        few = omega (arith, loaded-older);
+        short = loaded-short;
+      })

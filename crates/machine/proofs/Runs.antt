@@ -52,21 +52,21 @@ pub record Obeys (w : Plain) (c : Command) (s : Step) : Type 0 where
 -- the same, for a turn that is known
 pub obeys-turn : (w : Plain) (c : Command) (s : Step) (t : Turn) (more : ℕ) (after : List ℕ) → turn w c ≡ t → run more s [] ≡ ran after (t .shows) (t .reply) → Holds after (t .next) → Obeys w c s
 obeys-turn w c s t more after e r h =
-    record
-      { more = more
-      ; after = after
-      ; ran-so = r ∙ ap (λ (u : Turn). ran after (u .shows) (u .reply)) (sym e)
-      ; holds = subst (λ (u : Turn). Holds after (u .next)) (sym e) h
-      }
+    record {
+      more = more;
+      after = after;
+      ran-so = r ∙ ap (λ (u : Turn). ran after (u .shows) (u .reply)) (sym e);
+      holds = subst (λ (u : Turn). Holds after (u .next)) (sym e) h;
+    }
 
 pub obeys-answered : (known : Command → Bool) (m : List ℕ) (w : Plain) (t : List ℕ) (c : Command) → Holds m w → Said t c → known c ≡ true → Obeys w c (obeyed (set m 0 0) (asked t)) →
     Answered known own Holds m w t
 unfolding May
 obeys-answered known m w t c h said-so is-known o =
     let r = run-said (o .more) m t (h .fits) ∙ o .ran-so in
-    record
-      { steps = suc (o .more)
-      ; after = turn w c .next
-      ; may = subst (λ (x : Ran). May known w t x (turn w c .next)) (sym r) (inl (c, said-so, is-known, refl, refl, refl))
-      ; holds = subst (λ n. Holds n (turn w c .next)) (sym (ap (λ (x : Ran). x .memory) r)) (o .holds)
-      }
+    record {
+      steps = suc (o .more);
+      after = turn w c .next;
+      may = subst (λ (x : Ran). May known w t x (turn w c .next)) (sym r) (inl (c, said-so, is-known, refl, refl, refl));
+      holds = subst (λ n. Holds n (turn w c .next)) (sym (ap (λ (x : Ran). x .memory) r)) (o .holds);
+    }

@@ -75,12 +75,12 @@ small-zeros (suc n) = small-zeros n
 pub size-down : (m : List ℕ) → length m ≡ memory-words → Keeps-size m (moved-down m)
 unfolding moved-down
 size-down m long =
-    record
-      { long = down-long m long ∙ sym long
-      ; small = λ h.
+    record {
+      long = down-long m long ∙ sym long;
+      small = λ h.
           let s = small-paste m 2 (drop 3 m) 8 h (small-drop 3 m h) in
-          small-paste (paste m 2 (drop 3 m) 8) 16 (drop 8208 (paste m 2 (drop 3 m) 8)) 65536 s (small-drop 8208 (paste m 2 (drop 3 m) 8) s)
-      }
+          small-paste (paste m 2 (drop 3 m) 8) 16 (drop 8208 (paste m 2 (drop 3 m) 8)) 65536 s (small-drop 8208 (paste m 2 (drop 3 m) 8) s);
+    }
 
 pub size-back : (m : List ℕ) → memory-fits m ≡ true → Keeps-size m (gone-back m)
 unfolding gone-back
@@ -101,12 +101,12 @@ pub size-loaded : (m bs : List ℕ) → length m ≡ memory-words → length bs 
 unfolding loaded
 size-loaded m bs long short bytes =
     size-then m (put-words m 16 (packed bs)) (set (set (put-words m 16 (packed bs)) 1 0) 2 (length bs - 8))
-      (record
-        { long = put-long m 16 (packed bs) (omega (arith, length-packed-words bs, long))
-        ; small = λ h. small-put m 16 (packed bs) h (packed-words-small bs bytes)
-        })
-      (size-then (put-words m 16 (packed bs)) (set (put-words m 16 (packed bs)) 1 0) (set (set (put-words m 16 (packed bs)) 1 0) 2 (length bs - 8))
-        (size-set (put-words m 16 (packed bs)) 1 0 (omega arith)) (size-set (set (put-words m 16 (packed bs)) 1 0) 2 (length bs - 8) (omega arith)))
+    (record {
+      long = put-long m 16 (packed bs) (omega (arith, length-packed-words bs, long));
+      small = λ h. small-put m 16 (packed bs) h (packed-words-small bs bytes);
+    })
+    (size-then (put-words m 16 (packed bs)) (set (put-words m 16 (packed bs)) 1 0) (set (set (put-words m 16 (packed bs)) 1 0) 2 (length bs - 8))
+    (size-set (put-words m 16 (packed bs)) 1 0 (omega arith)) (size-set (set (put-words m 16 (packed bs)) 1 0) 2 (length bs - 8) (omega arith)))
 
 -- a function that is read in what is held ends within it
 flat-bytes : (ws : List ℕ) → all-bytes (flat eight ws) ≡ true

@@ -68,6 +68,7 @@ names-size m i = go (ltb i (length (held 0 m)))
         let got2 = found-some (fun-end (held 0 m) i) (λ k. Some (row (between (i + 8) (got .0) (held 0 m)) k)) r (got .2) in
         let is : row (between (i + 8) (got .0) (held 0 m)) (got2 .0) ≡ r = cc (got2 .2) in
         size-set m 0 (r .next + 1) (omega (arith, fun-within m i (got2 .0) (got2 .1), ap (λ (q : Row). q .next) is))
+
     go : (t : Bool) → Keeps-size m (pick t (name-shown m (name-row (held 0 m) i)) (stepped (set m 0 0) done) .memory)
     go true = rows (name-row (held 0 m) i) refl
     go false = size-set m 0 0 (omega arith)

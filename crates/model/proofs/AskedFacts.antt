@@ -329,3 +329,12 @@ unfolding Asks
 asked-program text bs e =
     let p = asked-said text (loading bs) e .2 in
     ap is-program (sym (p .1)) ∙ program-read (p .0) (bytes-program (p .0) (p .2)) (p .2)
+
+-- loading is asked for by the program's bytes
+pub load-asked : (text : List ℕ) (p : Program) → Said text (load p) → asked text ≡ Some (loading (program-spelled p))
+unfolding Said asked spelled fits
+load-asked text p said =
+    let bytes = bytes-program p (said .1) in
+    ap (λ t. pick (all-bytes t) (of-kind t) None) (sym (said .0))
+    ∙ ap (λ t. pick t (load-in (program-spelled p)) None) (bytes-first 1 (program-spelled p) (omega arith) bytes)
+    ∙ ap (λ t. pick t (Some (loading (program-spelled p))) None) (program-read p bytes (said .1))

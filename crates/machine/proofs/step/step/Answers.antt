@@ -18,14 +18,14 @@ returns-then-not-memory-fits c =
 
 pub returns-then-kind-eq-GO-ON : need.returns-then-kind-eq-GO-ON
 returns-then-kind-eq-GO-ON c =
-    record
-      { says = next-told _ _ _ _ _ _ _ (c .if-out-lt-ROW-BYTES .left) (sym (c .if-not-memory-fits .ensures tt)) (c .if-kind-eq-GO-ON .taken) (c .go-on .ensures)
-      ; whole = whole
-      }
+    record {
+      says = next-told _ _ _ _ _ _ _ (c .if-out-lt-ROW-BYTES .left) (sym (c .if-not-memory-fits .ensures tt)) (c .if-kind-eq-GO-ON .taken) (c .go-on .ensures);
+      whole = whole;
+    }
 
 pub returns : need.returns
 returns c =
-    record
-      { says = said-told _ _ _ _ _ _ _ (c .if-out-lt-ROW-BYTES .left) (sym (c .if-not-memory-fits .ensures tt)) (omega arith) (c .obey .ensures)
-      ; whole = whole
-      }
+    record {
+      says = said-told _ _ _ _ _ _ _ (c .if-out-lt-ROW-BYTES .left) (sym (c .if-not-memory-fits .ensures tt)) (omega arith) (c .obey .ensures);
+      whole = whole;
+    }
