@@ -13,9 +13,12 @@ use Rattle.model.specs.Command.{Command, load, show, names, rename-bind, rename
 use Rattle.model.specs.Whole.{Said, Never}
 use Rattle.model.specs.Reading.{Ask, loading, asking, Asks, Field, field, Located, located, Target, target}
 
+abbrev pub told : code.Field → Field
+told f = field (now (f .value)) (now (f .rest))
+
 abbrev pub field-told : Option code.Field → Option Field
 field-told None = None
-field-told (Some f) = Some (field (now (f .value)) (now (f .rest)))
+field-told (Some f) = Some (told f)
 
 abbrev pub bytes-told : Option (RefT (List ℕ)) → Option (List ℕ)
 bytes-told None = None
