@@ -31,7 +31,7 @@ pub impl Source for Text<'_> as TextSource {
     }
 
     fn at(&self, i: usize) -> u8 {
-        if i < self.bytes.len() {
+        if i < self.len() {
             self.bytes[i]
         } else {
             0
