@@ -13,12 +13,12 @@ use Rattle.model.specs.Command.{Command, load, show, names, rename-bind, rename
 use Rattle.model.specs.Whole.{Said, Never}
 use Rattle.model.specs.Reading.{Ask, loading, asking, Asks, Field, field, Located, located, Target, target}
 
-abbrev pub told : code.Field → Field
-told f = field (now (f .value)) (now (f .rest))
+abbrev pub field-of : code.Field → Field
+field-of f = field (now (f .value)) (now (f .rest))
 
 abbrev pub field-told : Option code.Field → Option Field
 field-told None = None
-field-told (Some f) = Some (told f)
+field-told (Some f) = Some (field-of f)
 
 abbrev pub bytes-told : Option (RefT (List ℕ)) → Option (List ℕ)
 bytes-told None = None

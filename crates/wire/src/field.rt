@@ -6,7 +6,7 @@ ghost use Prim.Native.Nat.{_≤_};
 ghost use Rattle.std.specs.Holes.{between};
 ghost use Rattle.language.specs.Basics.{every};
 ghost use Rattle.model.specs.Reading.{field, name-in, place-in, index-in, last-name, target-in, last-target};
-ghost use Rattle.wire.specs.Request.{bytes-told, told, field-told, located-told, target-told};
+ghost use Rattle.wire.specs.Request.{bytes-told, field-of, field-told, located-told, target-told};
 use expr::source::Text;
 use expr::source::TextSource;
 use expr::token::number;
@@ -40,7 +40,7 @@ pub struct Located<'a> {
 // The bytes of the text from the one place up to, and without, the other.
 fn cut(text: &[u8], from: usize, end: usize) -> Field<'_>
     requires { ⌜ from ≤ end ⌝ ∗ ⌜ end ≤ length (now text) ⌝ }
-    ensures { λ r. ⌜ told r ≡ field (between from end (now (text .entry))) (drop end (now (text .entry))) ⌝ }
+    ensures { λ r. ⌜ field-of r ≡ field (between from end (now (text .entry))) (drop end (now (text .entry))) ⌝ }
 {
     Field {
         value: &text[from..end],
