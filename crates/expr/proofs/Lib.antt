@@ -1,1 +1,3 @@
+pub mod LookFacts
+pub mod SameFacts
 pub mod TokenFacts

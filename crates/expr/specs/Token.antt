@@ -1,5 +1,6 @@
 -- What a token that was read stands for. Assumes nothing: these are definitions.
-use Prim.Native.Nat.{ℕ, _≤_, _<_}
+use mathlib.Core.Path.{_≡_}
+use Prim.Native.Nat.{ℕ, _+_, _≤_, _<_}
 use mathlib.Core.List.{List}
 use Rattle.std.specs.declared.option.Option.{Option}
 use Rattle.std.specs.declared.option.Option.the-variants.{Some, None}
@@ -57,6 +58,20 @@ kind-told bs Tell = h-tell
 abbrev pub told : List ℕ → Option code.Token → Option Token
 told bs None = None
 told bs (Some t) = Some (token (kind-told bs (t .kind)) (t .end))
+
+-- the name of a head whose other bytes begin at i lies behind its length, up to the head's end; a call has one byte more, its count
+abbrev pub Name-lies : ℕ → Kind → ℕ → Type 0
+Name-lies i (Number n) end = Unit {0}
+Name-lies i (Name s) end = (s .from ≡ i + 8) × (s .to ≡ end)
+Name-lies i (Binary o) end = Unit {0}
+Name-lies i (Call s k) end = (s .from ≡ i + 8) × (s .to + 1 ≡ end)
+Name-lies i (Let s) end = (s .from ≡ i + 8) × (s .to ≡ end)
+Name-lies i If end = Unit {0}
+Name-lies i Tell end = Unit {0}
+
+abbrev pub Lies : ℕ → Option code.Token → Type 0
+Lies i None = Unit {0}
+Lies i (Some t) = Name-lies i (t .kind) (t .end)
 
 abbrev pub token-end : Option code.Token → Option ℕ
 token-end None = None

@@ -1,5 +1,7 @@
-// Expressions in lent memory: rows of bytes, what stands first in a spelling, and where it ends. No recursion over an expression.
+// Expressions in lent memory: rows of bytes, names among names, what stands first in a spelling, and where it ends. No recursion over an expression.
+pub mod bytes;
 pub mod compare;
+pub mod look;
 pub mod packed;
 pub mod skip;
 pub mod source;

@@ -31,10 +31,6 @@ pub impl Source for Text<'_> as TextSource {
     }
 
     fn at(&self, i: usize) -> u8 {
-        if i < self.bytes.len() {
-            self.bytes[i]
-        } else {
-            0
-        }
+        if i < self.len() { self.bytes[i] } else { 0 }
     }
 }

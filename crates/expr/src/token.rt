@@ -3,7 +3,7 @@ ghost use Prim.Native.Nat.{_+_};
 ghost use lib.ListN.{length};
 ghost use mathlib.Core.Path.{_≡_};
 ghost use lib.Dec.{ltb};
-ghost use Rattle.expr.specs.Token.{told, operator-read, token-end, Room, Within};
+ghost use Rattle.expr.specs.Token.{told, operator-read, token-end, Lies, Room, Within};
 ghost use Rattle.language.specs.Basics.{pick};
 ghost use Rattle.language.specs.Heads.{h-var, h-bind};
 ghost use Rattle.language.specs.Reading.{number-at, name-end, num-at, bin-at, call-at, named-at, head-at};
@@ -97,6 +97,7 @@ pub fn skip_name<S: Source>(src: &S, at: usize) -> Option<usize>
 fn number_token<S: Source>(src: &S, at: usize) -> Option<Token>
     ensures value { λ r. ⌜ told (bytes (now (src .entry))) r ≡ num-at (bytes (now (src .entry))) at ⌝ }
     ensures within { λ r. ⌜ Within at (token-end r) (length (bytes (now (src .entry)))) ⌝ }
+    ensures lies { λ r. ⌜ Lies at r ⌝ }
 {
     let Some(n) = number(src, at) else {
         return None;
@@ -127,6 +128,7 @@ fn read_operator(code: u8) -> Option<Operator>
 fn binary_token<S: Source>(src: &S, at: usize) -> Option<Token>
     ensures value { λ r. ⌜ told (bytes (now (src .entry))) r ≡ bin-at (bytes (now (src .entry))) at ⌝ }
     ensures within { λ r. ⌜ Within at (token-end r) (length (bytes (now (src .entry)))) ⌝ }
+    ensures lies { λ r. ⌜ Lies at r ⌝ }
 {
     if at >= src.len() {
         return None;
@@ -143,6 +145,7 @@ fn binary_token<S: Source>(src: &S, at: usize) -> Option<Token>
 fn call_token<S: Source>(src: &S, at: usize) -> Option<Token>
     ensures value { λ r. ⌜ told (bytes (now (src .entry))) r ≡ call-at (bytes (now (src .entry))) at ⌝ }
     ensures within { λ r. ⌜ Within at (token-end r) (length (bytes (now (src .entry)))) ⌝ }
+    ensures lies { λ r. ⌜ Lies at r ⌝ }
 {
     let Some(to) = skip_name(src, at) else {
         return None;
@@ -163,6 +166,7 @@ fn call_token<S: Source>(src: &S, at: usize) -> Option<Token>
 fn name_token<S: Source>(src: &S, at: usize) -> Option<Token>
     ensures value { λ r. ⌜ told (bytes (now (src .entry))) r ≡ named-at h-var (bytes (now (src .entry))) at ⌝ }
     ensures within { λ r. ⌜ Within at (token-end r) (length (bytes (now (src .entry)))) ⌝ }
+    ensures lies { λ r. ⌜ Lies at r ⌝ }
 {
     let Some(to) = skip_name(src, at) else {
         return None;
@@ -176,6 +180,7 @@ fn name_token<S: Source>(src: &S, at: usize) -> Option<Token>
 fn let_token<S: Source>(src: &S, at: usize) -> Option<Token>
     ensures value { λ r. ⌜ told (bytes (now (src .entry))) r ≡ named-at h-bind (bytes (now (src .entry))) at ⌝ }
     ensures within { λ r. ⌜ Within at (token-end r) (length (bytes (now (src .entry)))) ⌝ }
+    ensures lies { λ r. ⌜ Lies at r ⌝ }
 {
     let Some(to) = skip_name(src, at) else {
         return None;
@@ -190,6 +195,7 @@ fn let_token<S: Source>(src: &S, at: usize) -> Option<Token>
 pub fn read_token<S: Source>(src: &S, at: usize) -> Option<Token>
     ensures value { λ r. ⌜ told (bytes (now (src .entry))) r ≡ head-at (bytes (now (src .entry))) at ⌝ }
     ensures within { λ r. ⌜ Within (at + 1) (token-end r) (length (bytes (now (src .entry)))) ⌝ }
+    ensures lies { λ r. ⌜ Lies (at + 1) r ⌝ }
 {
     if at >= src.len() {
         return None;

@@ -1,2 +1,1 @@
-pub mod FieldFacts
 pub mod RequestFacts

@@ -1,4 +1,4 @@
--- A text asks for what its first byte and the others ask for. Assumes nothing.
+-- A text asks for what its first byte and the others ask for, and that is what is spelled so. Assumes nothing.
 use mathlib.Core.Path.{_≡_, refl, ap, sym, _∙_}
 use mathlib.Core.Bool.{true}
 use mathlib.Core.List.{List, [], _∷_}
@@ -19,6 +19,9 @@ use Rattle.std.proofs.shelf.Tests.{and-from}
 use Rattle.language.specs.Basics.{pick}
 use Rattle.language.specs.Bytes.{all-bytes}
 use Rattle.model.specs.Reading.{Ask, command-in, of-kind, asked}
+use Rattle.model.proofs.AskedFacts.{said-asked, asked-said}
+use Rattle.wire.specs.declared.request.Request.{Request}
+use Rattle.wire.specs.Request.{request-asks, request-told, Exact}
 
 pub typed-bytes : (bs : List ℕ) → ((i : ℕ) → Fits w8 (getD bs i 0)) → all-bytes bs ≡ true
 typed-bytes [] h = refl
@@ -32,3 +35,7 @@ pub asked-kind : (bs : List ℕ) (r : Option Ask) → 0 < length bs → ((i : �
 unfolding asked
 asked-kind bs r h typed e =
     e ∙ ap of-kind (sym (first-rest bs 0 h)) ∙ ap (λ t. pick t (of-kind bs) None) (sym (typed-bytes bs typed))
+
+pub exact : (text : List ℕ) (r : Option Request) → request-told r ≡ asked text → Exact text r
+exact text None e = λ c said. let a = said-asked text c said in cc (e, a .1)
+exact text (Some q) e = asked-said text (request-asks q) (sym e)

@@ -9,12 +9,16 @@ use Rattle.wire.specs.declared.field.Located as code-located
 use Rattle.wire.specs.declared.field.Target as code-target
 use Rattle.wire.specs.declared.request.Request.{Request}
 use Rattle.wire.specs.declared.request.Request.the-variants.{Load, Show, Names, RenameBind, RenameParam, RenameFunction, Extract, InlineBind, InlineCall, TurnIf, DropFunction, Undo}
-use Rattle.model.specs.Command.{load, show, names, rename-bind, rename-param, rename-fun, extract, inline-bind, inline-call, turn-cond, drop-fun, undo}
-use Rattle.model.specs.Reading.{Ask, loading, asking, Field, field, Located, located, Target, target}
+use Rattle.model.specs.Command.{Command, load, show, names, rename-bind, rename-param, rename-fun, extract, inline-bind, inline-call, turn-cond, drop-fun, undo}
+use Rattle.model.specs.Whole.{Said, Never}
+use Rattle.model.specs.Reading.{Ask, loading, asking, Asks, Field, field, Located, located, Target, target}
+
+abbrev pub field-of : code.Field → Field
+field-of f = field (now (f .value)) (now (f .rest))
 
 abbrev pub field-told : Option code.Field → Option Field
 field-told None = None
-field-told (Some f) = Some (field (now (f .value)) (now (f .rest)))
+field-told (Some f) = Some (field-of f)
 
 abbrev pub bytes-told : Option (RefT (List ℕ)) → Option (List ℕ)
 bytes-told None = None
@@ -46,3 +50,8 @@ request-asks Undo = asking undo
 abbrev pub request-told : Option Request → Option Ask
 request-told None = None
 request-told (Some r) = Some (request-asks r)
+
+-- no command that fits is spelled so; or one is, and it is what the request asks for
+abbrev pub Exact : List ℕ → Option Request → Type 0
+Exact text None = (c : Command) → Said text c → Never
+Exact text (Some q) = (c : Command) × Said text c × Asks (request-asks q) c

@@ -1,9 +1,12 @@
 // The fields of a command: each is read from the front of what is left of its text.
 ghost use mathlib.Core.Path.{_≡_};
 ghost use lib.Dec.{ltb};
+ghost use lib.ListN.{length, drop};
+ghost use Prim.Native.Nat.{_≤_};
+ghost use Rattle.std.specs.Holes.{between};
 ghost use Rattle.language.specs.Basics.{every};
-ghost use Rattle.model.specs.Reading.{name-in, place-in, index-in, last-name, target-in, last-target};
-ghost use Rattle.wire.specs.Request.{bytes-told, field-told, located-told, target-told};
+ghost use Rattle.model.specs.Reading.{field, name-in, place-in, index-in, last-name, target-in, last-target};
+ghost use Rattle.wire.specs.Request.{bytes-told, field-of, field-told, located-told, target-told};
 use expr::source::Text;
 use expr::source::TextSource;
 use expr::token::number;
@@ -34,16 +37,24 @@ pub struct Located<'a> {
     pub rest: &'a [u8],
 }
 
+// The bytes of the text from the one place up to, and without, the other.
+fn cut(text: &[u8], from: usize, end: usize) -> Field<'_>
+    requires { ⌜ from ≤ end ⌝ ∗ ⌜ end ≤ length (now text) ⌝ }
+    ensures { λ r. ⌜ field-of r ≡ field (between from end (now (text .entry))) (drop end (now (text .entry))) ⌝ }
+{
+    Field {
+        value: &text[from..end],
+        rest: &text[end..],
+    }
+}
+
 pub fn read_name(text: &[u8]) -> Option<Field<'_>>
     ensures { λ r. ⌜ field-told r ≡ name-in (now (text .entry)) ⌝ }
 {
     let Some(end) = skip_name(&Text { bytes: text }, 0) else {
         return None;
     };
-    Some(Field {
-        value: &text[8..end],
-        rest: &text[end..],
-    })
+    Some(cut(text, 8, end))
 }
 
 // One number below the limit.
@@ -56,10 +67,7 @@ pub fn read_index(text: &[u8]) -> Option<Field<'_>>
     if *index >= PART_LIMIT {
         return None;
     }
-    Some(Field {
-        value: &text[0..1],
-        rest: &text[1..],
-    })
+    Some(cut(text, 0, 1))
 }
 
 // All of them are below the limit.
@@ -87,14 +95,11 @@ pub fn read_place(text: &[u8]) -> Option<Field<'_>>
     if end > text.len() {
         return None;
     }
-    let place = &text[8..end];
-    if !are_parts(place) {
+    let place = cut(text, 8, end);
+    if !are_parts(place.value) {
         return None;
     }
-    Some(Field {
-        value: place,
-        rest: &text[end..],
-    })
+    Some(place)
 }
 
 // A name with nothing after it.

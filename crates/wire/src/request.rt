@@ -2,7 +2,7 @@
 ghost use mathlib.Core.Path.{_≡_};
 ghost use Rattle.model.specs.Command.{show, names, rename-bind, rename-param, rename-fun, extract, inline-bind, inline-call, turn-cond, drop-fun, undo};
 ghost use Rattle.model.specs.Reading.{load-in, by-name, by-names, by-place, by-place-name, by-index-name, whole, command-in, asked};
-ghost use Rattle.wire.specs.Request.{request-told};
+ghost use Rattle.wire.specs.Request.{request-told, Exact};
 use crate::field::Target;
 use crate::field::read_index;
 use crate::field::read_last_name;
@@ -214,7 +214,8 @@ fn read_kind(kind: u8, text: &[u8]) -> Option<Request<'_>>
 
 // The command that is spelled so, if there is one.
 pub fn read(text: &[u8]) -> Option<Request<'_>>
-    ensures { λ r. ⌜ request-told r ≡ asked (now (text .entry)) ⌝ }
+    ensures value { λ r. ⌜ request-told r ≡ asked (now (text .entry)) ⌝ }
+    ensures exact { λ r. ⌜ Exact (now (text .entry)) r ⌝ }
 {
     let [kind, rest @ ..] = text else {
         return None;
