@@ -92,3 +92,10 @@ funs-fill bs (Some n) = leb n 1024 && ends-at (times n (fun-end bs) 8) (length b
 -- the bytes are a program's spelling, whole
 abbrev pub is-program : List ℕ → Bool
 is-program bs = leb (length bs) 65536 && funs-fill bs (number-at bs 0)
+
+-- where what stands at a place of the expression at i begins: each number says which part, after so many others
+unfoldable pub place-at : List ℕ → List ℕ → ℕ → Option ℕ
+place-at bs [] i = Some i
+place-at bs (k ∷ ks) i =
+    found (head-at bs i)
+        (λ t. pick (ltb k (arity (t .head))) (found (ends k (length bs) bs (t .end)) (λ j. place-at bs ks j)) None)
