@@ -29,6 +29,11 @@ abbrev pub Onward : ℕ → Option ℕ → ℕ → Type 0
 Onward low None high = Unit {0}
 Onward low (Some j) high = (low ≤ j) × (low ≤ high → j ≤ high)
 
+-- an end of so many things that was found lies further on, and within the row if there is one of them
+abbrev pub Skipped : ℕ → ℕ → Option ℕ → ℕ → Type 0
+Skipped n low None high = Unit {0}
+Skipped n low (Some j) high = (low ≤ j) × (0 < n → j ≤ high) × (high < 18446744073709551616)
+
 abbrev pub spelled-in : List ℕ → Span → List ℕ
 spelled-in bs s = between (s .from) (s .to) bs
 

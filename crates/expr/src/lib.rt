@@ -3,6 +3,7 @@ pub mod bytes;
 pub mod compare;
 pub mod look;
 pub mod packed;
+pub mod place;
 pub mod skip;
 pub mod source;
 pub mod token;

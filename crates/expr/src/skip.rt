@@ -2,8 +2,8 @@
 ghost use lib.ListN.{length};
 ghost use mathlib.Core.Path.{_≡_};
 ghost use Prim.Native.Nat.{_+_};
-ghost use Rattle.expr.specs.Token.{kind-arity, Onward, Within};
-ghost use Rattle.language.specs.Reading.{expr-end, params-end, fun-end, is-program, name-end, times};
+ghost use Rattle.expr.specs.Token.{kind-arity, Onward, Skipped, Within};
+ghost use Rattle.language.specs.Reading.{ends, expr-end, params-end, fun-end, is-program, name-end, times};
 use crate::source::Source;
 use crate::token::Kind;
 use crate::token::MAX_VALUES;
@@ -31,13 +31,13 @@ pub fn arity(kind: Kind) -> usize
     }
 }
 
-// Where the expression ends that begins there.
-pub fn skip<S: Source>(src: &S, at: usize) -> Option<usize>
-    ensures value { λ r. ⌜ r ≡ expr-end (bytes (now (src .entry))) at ⌝ }
-    ensures within { λ r. ⌜ Within at r (length (bytes (now (src .entry)))) ⌝ }
+// Where the next `count` expressions end.
+pub fn skip_many<S: Source>(src: &S, count: usize, at: usize) -> Option<usize>
+    ensures value { λ r. ⌜ r ≡ ends count (length (bytes (now (src .entry)))) (bytes (now (src .entry))) at ⌝ }
+    ensures within { λ r. ⌜ Skipped count at r (length (bytes (now (src .entry)))) ⌝ }
 {
     let len = src.len();
-    let mut need = 1;
+    let mut need = count;
     let mut end = at;
     for turn in 0..len {
         if need == 0 {
@@ -56,6 +56,14 @@ pub fn skip<S: Source>(src: &S, at: usize) -> Option<usize>
         end = token.end;
     }
     if need == 0 { Some(end) } else { None }
+}
+
+// Where the expression ends that begins there.
+pub fn skip<S: Source>(src: &S, at: usize) -> Option<usize>
+    ensures value { λ r. ⌜ r ≡ expr-end (bytes (now (src .entry))) at ⌝ }
+    ensures within { λ r. ⌜ Within at r (length (bytes (now (src .entry)))) ⌝ }
+{
+    skip_many(src, 1, at)
 }
 
 // Where so many names end, one after the other.

@@ -14,6 +14,7 @@ pub mod TableFacts
 pub mod SameFacts
 pub mod PackedFacts
 pub mod PasteFacts
+pub mod FollowFacts
 pub mod PackedLaws
 pub mod PlaceFacts
 pub mod FreeFacts
