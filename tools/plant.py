@@ -3,7 +3,8 @@
 
     tools/plant.py [NAME..]     the bugs of tools/planted/NAME.txt; all of them if none is named
 
-A bug is a file of five lines: `bug:` what is wrong, `crate:`, `file:`, `old:` (standing once in that file) and `new:`.
+A bug is a file of five lines: `bug:` what is wrong, `crate:`, `file:`, `old:` (standing once in that file) and `new:`; in the
+last two, a \\n is the end of a line.
 For each one a row of the table in docs/PLANTED.md is printed: the bug, its crate, and what no longer holds: a function, its first
 clause, and the needs under which the check asks for it. Ends with status 1 where a bug is still proved.
 """
@@ -23,6 +24,8 @@ def read_bug(path):
     fields = dict(line.split(": ", 1) for line in path.read_text().splitlines() if line)
     if tuple(fields) != KEYS:
         sys.exit(f"{path}: wants the lines {', '.join(KEYS)}")
+    for key in ("old", "new"):
+        fields[key] = fields[key].replace("\\n", "\n")
     return fields
 
 
