@@ -26,6 +26,7 @@ pub mod BareSpelling
 pub mod PlaceFits
 pub mod ProgramFits
 pub mod PlaceLengths
+pub mod PlaceLaws
 pub mod Depth
 pub mod Reach
 pub mod AlikeRuns
