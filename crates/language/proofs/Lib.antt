@@ -27,6 +27,7 @@ pub mod PlaceFits
 pub mod ProgramFits
 pub mod PlaceLengths
 pub mod PlaceLaws
+pub mod ChangeLaws
 pub mod Depth
 pub mod Reach
 pub mod AlikeRuns

@@ -9,10 +9,9 @@ use native.Mathlib.Nat.{add-zero}
 use lib.Dec.{eqb, ltb}
 use lib.ListN.{length, take, drop}
 use borrow.Author.Tests.{lt-ltb, le-ltb}
-use Rattle.std.specs.declared.option.Option.{Option}
 use Rattle.std.specs.declared.option.Option.the-variants.{Some, None}
 use Rattle.std.proofs.shelf.Lists.{append-assoc, append-nil, length-append, length-take-le}
-use Rattle.language.specs.Basics.{pick, every, flat}
+use Rattle.language.specs.Basics.{pick, flat}
 use Rattle.language.specs.Expr.{Expr, num, var, bin, call, bind, choice, tell, Exprs, no-exprs, expr-and, exprs-in, parts}
 use Rattle.language.specs.Places.{nth-expr, in-some, at-place, put-nth, with-part, put-some, put-at}
 use Rattle.language.specs.Spelling.{expr-spelled}
