@@ -28,10 +28,14 @@ fun-front f = with-length (f .name) ++ params-spelled (f .params)
 pub fun-split : (f : Fun) → fun-spelled f ≡ fun-front f ++ expr-spelled (f .body)
 fun-split f = fun-parts f ∙ sym (append-assoc (with-length (f .name)) (params-spelled (f .params)) (expr-spelled (f .body)))
 
--- a function stands at o: its body is read to begin after its front, and stands there
+-- where the body begins of a function that stands at o
+abbrev pub body-from : ℕ → Fun → ℕ
+body-from o f = o + length (with-length (f .name)) + length (params-spelled (f .params))
+
+-- it is read there, and stands there
 pub record Body-at (bs : List ℕ) (o : ℕ) (f : Fun) : Type 0 where
-  pub at-is : found (name-end bs o) (λ j. params-end bs j) ≡ Some (o + length (with-length (f .name)) + length (params-spelled (f .params)))
-  pub stands : Stands bs (o + length (with-length (f .name)) + length (params-spelled (f .params))) (expr-spelled (f .body))
+  pub at-is : found (name-end bs o) (λ j. params-end bs j) ≡ Some (body-from o f)
+  pub stands : Stands bs (body-from o f) (expr-spelled (f .body))
   pub fits : an-expr (f .body) ≡ true
 
 pub body-at : (bs : List ℕ) → all-bytes bs ≡ true → (o : ℕ) (f : Fun) → a-fun f ≡ true → Stands bs o (fun-spelled f) → Body-at bs o f
@@ -51,7 +55,7 @@ body-at bs bytes o f fit s =
     all : Stands bs o (fun-front f ++ expr-spelled (f .body))
     all = subst (Stands bs o) (fun-split f) s
 
-    end : o + length (fun-front f) ≡ o + length (with-length (f .name)) + length (params-spelled (f .params))
+    end : o + length (fun-front f) ≡ body-from o f
     end = omega (arith, length-append (with-length (f .name)) (params-spelled (f .params)))
 
 -- the bytes of a program in which one function is another

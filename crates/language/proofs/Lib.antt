@@ -28,6 +28,7 @@ pub mod ProgramFits
 pub mod PlaceLengths
 pub mod PlaceLaws
 pub mod ChangeLaws
+pub mod PutLaws
 pub mod Depth
 pub mod Reach
 pub mod AlikeRuns
