@@ -27,6 +27,9 @@ pub mod BareSpelling
 pub mod PlaceFits
 pub mod ProgramFits
 pub mod PlaceLengths
+pub mod PlaceLaws
+pub mod ChangeLaws
+pub mod PutLaws
 pub mod Depth
 pub mod Reach
 pub mod AlikeRuns

@@ -30,7 +30,7 @@ parts-fit (bind x a b) h = let fit = bind-fit x a b h in two-fit a b (fit .1) (f
 parts-fit (choice c a b) h = let fit = choice-fit c a b h in and-from (an-expr c) (every an-expr (a ∷ b ∷ [])) (fit .0) (two-fit a b (fit .1) (fit .2))
 parts-fit (tell a) h = and-from (an-expr a) true (unfold an-expr in h) refl
 
-nth-fit : (es : List Expr) (k : ℕ) (c : Expr) (cs : List Expr) → every an-expr es ≡ true → nth-expr es k ≡ c ∷ cs → an-expr c ≡ true
+pub nth-fit : (es : List Expr) (k : ℕ) (c : Expr) (cs : List Expr) → every an-expr es ≡ true → nth-expr es k ≡ c ∷ cs → an-expr c ≡ true
 unfolding nth-expr
 nth-fit [] k c cs h e = absurd (nil≢cons e)
 nth-fit (a ∷ as₁) zero c cs h e = let z : a ≡ c = cc in ap an-expr (sym z) ∙ and-parts (an-expr a) (every an-expr as₁) h .0
@@ -46,7 +46,7 @@ at-fit (k ∷ ks) a b bs h e = go (nth-expr (parts a) k) refl e (λ c. at-fit ks
     go [] p e ih = absurd (nil≢cons e)
     go (c ∷ cs) p e ih = ih c (nth-fit (parts a) k c cs (parts-fit a h) p) e
 
-nth-count : (es : Exprs) (k : ℕ) (e : Expr) → count-exprs (put-nth es k e) ≡ count-exprs es
+pub nth-count : (es : Exprs) (k : ℕ) (e : Expr) → count-exprs (put-nth es k e) ≡ count-exprs es
 unfolding count-exprs put-nth
 nth-count no-exprs k e = refl
 nth-count (expr-and a es) zero e = refl

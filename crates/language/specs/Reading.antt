@@ -98,4 +98,4 @@ unfoldable pub place-at : List ℕ → List ℕ → ℕ → Option ℕ
 place-at bs [] i = Some i
 place-at bs (k ∷ ks) i =
     found (head-at bs i)
-        (λ t. pick (ltb k (arity (t .head))) (found (ends k (length bs) bs (t .end)) (λ j. place-at bs ks j)) None)
+    (λ t. pick (ltb k (arity (t .head))) (found (ends k (length bs) bs (t .end)) (λ j. place-at bs ks j)) None)

@@ -15,20 +15,15 @@ use Rattle.language.specs.Meaning.{fun-of}
 use Rattle.language.specs.Names.{has, distinct}
 use Rattle.language.specs.Spelling.{expr-spelled, exprs-spelled}
 use Rattle.language.specs.Fits.{a-name, an-expr, all-exprs}
-use Rattle.language.proofs.NameFacts.{same-eq, same-sym, or-left-false, or-right-false}
+use Rattle.language.proofs.NameFacts.{same-eq}
 use Rattle.language.proofs.BareRuns.{bare-fun}
+use Rattle.language.proofs.ChangeLaws.{changed-none}
 use Rattle.language.proofs.FitFacts.{bin-fit, bind-fit, choice-fit, call-fit, exprs-fit, fit-bin, fit-bind, fit-choice, fit-call, pick-true, num-long, var-long, bin-long, call-long, bind-long, choice-long, tell-long, exprs-long}
 use Rattle.model.specs.State.{set-fun}
 use Rattle.model.specs.Rename.{renamed, renamed-all, put-name}
 
 abbrev pub names-of : Program → List Name
 names-of p = each (λ f. f .name) p
-
-pub set-none : (p : Program) (x : Name) (g : Fun) → has (names-of p) x ≡ false → set-fun p x g ≡ p
-set-none [] x g h = refl
-set-none (f ∷ fs) x g h =
-    ap₂ _∷_ (ap (λ t. pick t g f) (same-sym (f .name) x ∙ or-left-false (same x (f .name)) (has (names-of fs) x) h))
-    (set-none fs x g (or-right-false (same x (f .name)) (has (names-of fs) x) h))
 
 pub set-bare : (p : Program) (x : Name) (f : Fun) (fs : List Fun) (g : Fun) → distinct (names-of p) ≡ true → fun-of p x ≡ f ∷ fs →
     bare-fun g ≡ bare-fun f → each bare-fun (set-fun p x g) ≡ each bare-fun p
@@ -45,7 +40,7 @@ set-bare (k ∷ ks) x f fs g d h e = go (same (k .name) x) refl h (λ found. set
     go true s h ih =
         let first : k ≡ f = cc in
         ap₂ _∷_ (e ∙ ap bare-fun (sym first))
-        (ap (each bare-fun) (set-none ks x g (ap (has (names-of ks)) (sym (same-eq (k .name) x s)) ∙ not-true _ (apart .0))))
+        (ap (each bare-fun) (changed-none ks x g (ap (has (names-of ks)) (sym (same-eq (k .name) x s)) ∙ not-true _ (apart .0))))
     go false s h ih = ap (_∷_ (bare-fun k)) (ih h)
 
 renamed-count : (x y : Name) (es : Exprs) → count-exprs (renamed-all x y es) ≡ count-exprs es
