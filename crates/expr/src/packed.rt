@@ -1,7 +1,8 @@
 // A row of bytes in words, eight bytes to a word, the highest first.
-ghost use Prim.Native.Nat.{ℕ};
+ghost use Prim.Native.Nat.{ℕ, _<_};
 ghost use denote.Ref.{now};
-ghost use lib.ListN.{take};
+ghost use lib.ListN.{getD, take};
+ghost use mathlib.Core.Path.{_≡_};
 ghost use Rattle.language.specs.Basics.{flat};
 ghost use Rattle.language.specs.Bytes.{eight};
 use crate::source::Source;
@@ -11,6 +12,21 @@ pub struct Packed<'a> {
     pub words: &'a [u64],
     // How many bytes of them the row has.
     pub len: usize,
+}
+
+// The byte of that number, from the highest.
+fn byte_of(word: u64, number: usize) -> u8
+    requires { ⌜ number < 8 ⌝ }
+    ensures { λ r. ⌜ r ≡ getD (eight word) number 0 ⌝ }
+{
+    word.to_be_bytes()[number]
+}
+
+// The word there, or 0 past the end.
+fn word_at(words: &[u64], i: usize) -> u64
+    ensures { λ r. ⌜ r ≡ getD (now (words .entry)) i 0 ⌝ }
+{
+    if i < words.len() { words[i] } else { 0 }
 }
 
 pub impl Source for Packed<'_> as PackedSource {
@@ -25,9 +41,6 @@ pub impl Source for Packed<'_> as PackedSource {
         if i >= self.len {
             return 0;
         }
-        if i / 8 >= self.words.len() {
-            return 0;
-        }
-        self.words[i / 8].to_be_bytes()[i % 8]
+        byte_of(word_at(self.words, i / 8), i % 8)
     }
 }
