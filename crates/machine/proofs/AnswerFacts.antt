@@ -15,7 +15,7 @@ use Rattle.language.specs.Basics.{pick}
 use Rattle.language.specs.Bytes.{Name}
 use Rattle.language.specs.Reading.{found, name-end, fun-end}
 use Rattle.language.specs.Contents.{find-function}
-use Rattle.model.specs.Engine.{shows, done, refused}
+use Rattle.model.specs.Engine.{shows, done, refused, Step}
 use Rattle.machine.specs.declared.told.Told.{Told}
 use Rattle.machine.specs.declared.told.Told.the-variants.{Shows, Done, No}
 use Rattle.machine.specs.Layout.{older, held}
@@ -34,6 +34,9 @@ unfolding undo-step
 undo-done m out m₁ e g =
     subst (λ t. Tells (pick t (stepped m (refused 9)) (stepped (gone-back m) done)) Done out m₁ out) (sym (ne-eqb (older m) 0 e))
     (subst (λ n. Tells (stepped (gone-back m) done) Done out n out) (sym g) (tells-done (gone-back m) out))
+
+pub told-as : (s : Step) (r r₁ : Told) (out m₁ out₁ : List ℕ) → r₁ ≡ r → Tells s r out m₁ out₁ → Tells s r₁ out m₁ out₁
+told-as s r r₁ out m₁ out₁ e t = subst (λ a. Tells s a out m₁ out₁) (sym e) t
 
 -- a row of a length that is known
 row-told : (m out : List ℕ) (i j : ℕ) (bs out₁ : List ℕ) → j ≤ length bs → out₁ ≡ between i j bs ++ drop (j - i) out →

@@ -5,7 +5,7 @@ use mathlib.Core.List.{List, _++_}
 use Prim.Native.Nat.{ℕ, _-_, _≤_, _<_}
 use native.Mathlib.Omega.{arith}
 use lib.Dec.{eqb, leb}
-use lib.ListN.{length, drop, length-replicate}
+use lib.ListN.{length, set, drop, length-replicate}
 use borrow.Author.Tests.{le-leb, lt-leb, eq-eqb, ne-eqb}
 use Rattle.std.proofs.shelf.Tests.{and-parts, and-from, and-left, and-right}
 use Rattle.language.specs.Basics.{pick}
@@ -77,9 +77,10 @@ module _ (m : List ℕ) (kind : ℕ) (text out : List ℕ) (r : Told) (m₁ out�
   pub next-told : kind ≡ 1 → Tells (by-event m next) r out m₁ out₁ → Step-says own m kind text out (step-fits own m kind out) r m₁ out₁
   next-told k s = step-told (omega arith) (subst (λ n. Tells (by-event m (event-of n text)) r out m₁ out₁) (sym k) s)
 
--- what a text asks for, by what was read
-pub obeyed-as : (m text : List ℕ) (a : Option Ask) (r : Told) (out m₁ out₁ : List ℕ) → a ≡ asked text → Tells (obeyed m a) r out m₁ out₁ → Tells (obeyed m (asked text)) r out m₁ out₁
-obeyed-as m text a r out m₁ out₁ e s = subst (λ b. Tells (obeyed m b) r out m₁ out₁) e s
+-- what a text asks for, by what was read, once the answer under way has ended
+pub obeyed-as : (m ended text : List ℕ) (a : Option Ask) (r : Told) (out m₁ out₁ : List ℕ) → ended ≡ set m 0 0 → a ≡ asked text → Tells (obeyed ended a) r out m₁ out₁ →
+    Tells (by-event m (said text)) r out m₁ out₁
+obeyed-as m ended text a r out m₁ out₁ u e s = subst (λ b. Tells (obeyed b (asked text)) r out m₁ out₁) u (subst (λ b. Tells (obeyed ended b) r out m₁ out₁) e s)
 
 pub answered-as : (m : List ℕ) (q p : Request) (r : Told) (out m₁ out₁ : List ℕ) → q ≡ p → Tells (ask-step m (request-asks p)) r out m₁ out₁ → Tells (ask-step m (request-asks q)) r out m₁ out₁
 answered-as m q p r out m₁ out₁ e s = subst (λ t. Tells (ask-step m (request-asks t)) r out m₁ out₁) (sym e) s

@@ -9,6 +9,7 @@ ghost use Rattle.machine.specs.Told.{Tells};
 use crate::layout::MARK;
 use crate::layout::current;
 use crate::rows::copy_row;
+use crate::rows::shown;
 use crate::told::Refusal;
 use crate::told::Told;
 use crate::told::refused;
@@ -34,9 +35,10 @@ pub fn show(memory: &mut [u64], function: &[u8], out: &mut [u8]) -> Told
     let Some(to) = skip_function(&program, from) else {
         return refused(Refusal::Missing);
     };
-    copy_row(&program, Span { from, to }, out);
+    let row = Span { from, to };
+    copy_row(&program, row, out);
     memory[MARK] = NO_MORE;
-    Told::Shows((to - from) as u64)
+    shown(row)
 }
 
 // The name of the function that begins at `at`, or the end of the answer.
@@ -56,7 +58,8 @@ pub fn show_name(memory: &mut [u64], at: usize, out: &mut [u8]) -> Told
         return refused(Refusal::Misuse);
     };
     let from = at + 8;
-    copy_row(&program, Span { from, to }, out);
+    let row = Span { from, to };
+    copy_row(&program, row, out);
     memory[MARK] = next as u64 + 1;
-    Told::Shows((to - from) as u64)
+    shown(row)
 }

@@ -2,7 +2,7 @@
 ghost use lib.ListN.{length};
 ghost use mathlib.Core.Bool.{true};
 ghost use mathlib.Core.Path.{_≡_};
-ghost use Prim.Native.Nat.{_≤_};
+ghost use Prim.Native.Nat.{_+_, _≤_, min};
 ghost use Rattle.machine.specs.History.{moved-down, moved-up, placed, committed};
 ghost use Rattle.machine.specs.Layout.{memory-words, memory-fits};
 ghost use Rattle.machine.specs.Machine.{undo-step};
@@ -61,13 +61,20 @@ pub fn undo(memory: &mut [u64], out: &mut [u8]) -> Told
     Told::Done
 }
 
+// How many there are to go back to with one more: the ninth falls out.
+fn one_more(older: u64) -> u64
+    requires { ⌜ older ≤ 8 ⌝ }
+    ensures { λ r. ⌜ r ≡ min 8 (older + 1) ⌝ }
+{
+    MAX_OLDER.min(older + 1)
+}
+
 // The first `len` bytes of the build area are the current program, and the one before can be gone back to.
 pub fn commit(memory: &mut [u64], len: u64)
     requires { ⌜ memory-fits (now memory) ≡ true ⌝ ∗ ⌜ 8 ≤ len ⌝ }
     ensures { λ _. ⌜ now (memory .exit) ≡ committed (now (memory .entry)) len ⌝ }
 {
-    let older = memory[OLDER];
-    memory[OLDER] = MAX_OLDER.min(older + 1);
+    memory[OLDER] = one_more(memory[OLDER]);
     move_up(memory);
     place(memory, len);
 }

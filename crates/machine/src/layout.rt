@@ -1,10 +1,10 @@
 // The machine's memory: which word is what.
-ghost use lib.ListN.{take};
+ghost use lib.ListN.{length, take, set};
 ghost use mathlib.Core.Bool.{true};
 ghost use mathlib.Core.Path.{_≡_};
 ghost use Rattle.language.specs.Basics.{flat};
 ghost use Rattle.language.specs.Bytes.{eight};
-ghost use Rattle.machine.specs.Layout.{lengths-fit, memory-fits, held};
+ghost use Rattle.machine.specs.Layout.{memory-words, lengths-fit, memory-fits, held};
 use expr::packed::Packed;
 
 pub const MEMORY_WORDS: usize = 262144;
@@ -61,6 +61,14 @@ pub fn memory_fits(memory: &[u64]) -> bool
         return false;
     }
     lengths_fit(&memory[LENGTHS..LENGTHS + SLOTS])
+}
+
+// No answer is under way.
+pub(crate) fn end_answer(memory: &mut [u64])
+    requires { ⌜ length (now memory) ≡ memory-words ⌝ }
+    ensures { λ _. ⌜ now (memory .exit) ≡ set (now (memory .entry)) 0 0 ⌝ }
+{
+    memory[MARK] = 0;
 }
 
 // The current program's bytes.

@@ -4,6 +4,8 @@ ghost use mathlib.Core.List.{_++_};
 ghost use mathlib.Core.Path.{_≡_};
 ghost use Prim.Native.Nat.{_-_, _≤_};
 ghost use Rattle.expr.specs.Token.{spelled-in};
+ghost use Rattle.machine.specs.declared.told.Told.the-variants.{Shows};
+use crate::told::Told;
 use expr::source::Source;
 use expr::token::Span;
 
@@ -16,4 +18,12 @@ pub fn copy_row<S: Source>(src: &S, span: Span, row: &mut [u8])
     for k in 0..span.to - span.from {
         row[k] = src.at(span.from + k);
     }
+}
+
+// The row is as long as the span.
+pub fn shown(span: Span) -> Told
+    requires { ⌜ span .from ≤ span .to ⌝ }
+    ensures { λ r. ⌜ r ≡ Shows (span .to - span .from) ⌝ }
+{
+    Told::Shows((span.to - span.from) as u64)
 }

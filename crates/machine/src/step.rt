@@ -14,6 +14,7 @@ use crate::answers::show;
 use crate::answers::show_name;
 use crate::history::undo;
 use crate::layout::MARK;
+use crate::layout::end_answer;
 use crate::layout::memory_fits;
 use crate::load::load;
 use crate::told::Refusal;
@@ -59,7 +60,7 @@ fn obey(memory: &mut [u64], text: &[u8], out: &mut [u8]) -> Told
     requires { ⌜ memory-fits (now memory) ≡ true ⌝ ∗ ⌜ 131072 ≤ length (now out) ⌝ }
     ensures { λ r. ⌜ Tells (by-event (now (memory .entry)) (said (now (text .entry)))) r (now (out .entry)) (now (memory .exit)) (now (out .exit)) ⌝ }
 {
-    memory[MARK] = 0;
+    end_answer(memory);
     let Some(request) = read(text) else {
         return refused(Refusal::NotACommand);
     };

@@ -1,6 +1,6 @@
 -- What was found in the current program is the row.
 use native.Mathlib.Omega.{arith}
-use Rattle.machine.proofs.AnswerFacts.{show-none, show-cut, show-row}
+use Rattle.machine.proofs.AnswerFacts.{told-as, show-none, show-cut, show-row}
 use Rattle.machine.proofs.LayoutFacts.{held-short}
 use Rattle.machine.proofs.answers.show.Needs as need
 
@@ -20,4 +20,4 @@ copy-row-requires c κs =
 
 pub returns : need.returns
 returns c =
-    show-row _ _ _ _ (c .current-program .ensures) _ _ _ (c .in-Some .ensures tt) (c .in-Some-skip-function .ensures tt .value) (c .in-Some-skip-function .ensures tt .within .1) (c .copy-row .ensures)
+    told-as _ _ _ _ _ _ (c .shown .ensures) (show-row _ _ _ _ (c .current-program .ensures) _ _ _ (c .in-Some .ensures tt) (c .in-Some-skip-function .ensures tt .value) (c .in-Some-skip-function .ensures tt .within .1) (c .copy-row .ensures))

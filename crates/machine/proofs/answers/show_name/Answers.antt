@@ -1,7 +1,7 @@
 -- What was found in the current program is the row, or the answer ends.
 use native.Mathlib.Omega.{arith}
 use mir.Facts.{fits-lt}
-use Rattle.machine.proofs.AnswerFacts.{names-end, names-cut, names-lost, names-row}
+use Rattle.machine.proofs.AnswerFacts.{told-as, names-end, names-cut, names-lost, names-row}
 use Rattle.machine.proofs.LayoutFacts.{held-short}
 use Rattle.machine.proofs.answers.show_name.Needs as need
 
@@ -27,4 +27,4 @@ add-memory c = omega (arith, c .in-Some-skip-function .ensures tt .within, held-
 
 pub returns : need.returns
 returns c =
-    names-row _ _ _ _ (c .current-program .ensures) _ _ _ (omega arith) (c .in-Some .ensures tt .value) (c .in-Some-skip-function .ensures tt .value) (c .in-Some .ensures tt .within .1) (c .copy-row .ensures)
+    told-as _ _ _ _ _ _ (c .shown .ensures) (names-row _ _ _ _ (c .current-program .ensures) _ _ _ (omega arith) (c .in-Some .ensures tt .value) (c .in-Some-skip-function .ensures tt .value) (c .in-Some .ensures tt .within .1) (c .copy-row .ensures))
