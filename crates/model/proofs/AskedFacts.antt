@@ -1,13 +1,12 @@
 -- A text asks for the command that is spelled so and fits, and for no other. Assumes nothing.
 use mathlib.Core.Path.{_≡_, refl, ap, ap₂, sym, _∙_, subst}
-use mathlib.Core.Bool.{Bool, true, false, _&&_}
+use mathlib.Core.Bool.{true, _&&_}
 use mathlib.Core.List.{List, [], _∷_, _++_}
-use Prim.Native.Nat.{ℕ, _+_, _≤_, _<_}
+use Prim.Native.Nat.{ℕ, _<_}
 use native.Mathlib.Omega.{arith}
-use lib.Dec.{eqb, ltb, leb}
-use lib.ListN.{length, getD, drop}
-use borrow.Author.Tests.{clash, leb-true, ltb-true, eqb-true}
-use Rattle.std.specs.declared.option.Option.{Option}
+use lib.Dec.{ltb, leb}
+use lib.ListN.{length, getD}
+use borrow.Author.Tests.{clash, ltb-true}
 use Rattle.std.specs.declared.option.Option.the-variants.{Some, None}
 use Rattle.std.proofs.shelf.Lists.{append-assoc, append-nil}
 use Rattle.std.proofs.shelf.Tests.{and-parts, and-from}
@@ -15,15 +14,16 @@ use Rattle.language.specs.Basics.{pick, every, none-of}
 use Rattle.language.specs.Bytes.{Name, eight, with-length, all-bytes}
 use Rattle.language.specs.Expr.{Program}
 use Rattle.language.specs.Spelling.{program-spelled}
-use Rattle.language.specs.Fits.{a-name, a-program}
+use Rattle.language.specs.Fits.{a-name}
 use Rattle.language.specs.Reading.{found, is-program}
 use Rattle.language.proofs.ByteFacts.{bytes-append, bytes-first, bytes-eight, bytes-name, bytes-program}
 use Rattle.language.proofs.ReadingFacts.{found-some, pick-some, pick-found}
+use Rattle.language.proofs.HeadFacts.{either}
 use Rattle.language.proofs.ProgramFacts.{program-read, program-was}
 use Rattle.model.specs.Command.{Command, load, show, names, rename-bind, rename-param, rename-fun, extract, inline-bind, inline-call, turn-cond, drop-fun, undo, place-spelled, spelled, a-place, fits}
 use Rattle.model.specs.Whole.{Said}
-use Rattle.model.specs.Reading.{Ask, loading, asking, Asks, Field, field, Located, located, Target, target, name-in, index-in, place-in, last-name, target-in, last-target, whole, load-in, by-name, by-names, by-place, by-place-name, by-index-name, command-in, of-kind, asked}
-use Rattle.model.proofs.FieldFacts.{Fields, name-fields, index-fields, an-index, place-fields}
+use Rattle.model.specs.Reading.{Ask, loading, asking, Asks, Field, Located, located, Target, target, name-in, index-in, place-in, last-name, target-in, last-target, whole, load-in, by-name, by-names, by-place, by-place-name, by-index-name, command-in, of-kind, asked}
+use Rattle.model.proofs.FieldFacts.{name-fields, index-fields, an-index, place-fields}
 
 -- nothing comes after it
 none-rest : (bs : List ℕ) → none-of bs ≡ true → bs ≡ []
@@ -284,14 +284,6 @@ module _ (k : ℕ) (bs : List ℕ) (bytes : all-bytes bs ≡ true) (a : Ask) whe
       let kept = pick-some (is-program bs) (loading bs) a e in
       let p = program-was bs bytes (kept .0) in
       subst (Written k bs) (kept .1) (load (p .0), ap₂ _∷_ (sym k-is) (p .1), p .2, (p .0, p .1, p .2, refl))
-
--- one kind after the other
-either : {R : Type 0} (k n : ℕ) (this rest : Option Ask) (a : Ask) → (k ≡ n → this ≡ Some a → R) → (rest ≡ Some a → R) → pick (eqb k n) this rest ≡ Some a → R
-either {R} k n this rest a it others e = go (eqb k n) refl e
-  where
-    go : (t : Bool) → eqb k n ≡ t → pick t this rest ≡ Some a → R
-    go true h e = it (eqb-true k n h) e
-    go false h e = others e
 
 kind-was : (k : ℕ) (bs : List ℕ) → all-bytes bs ≡ true → (a : Ask) → command-in k bs ≡ Some a → Written k bs a
 unfolding spelled fits
