@@ -1,12 +1,14 @@
 #!/usr/bin/env python3
-"""Plants one bug at a time in the code, checks its crate, and takes the bug out again.
+"""Plants one edit at a time in code or definitions, checks the crate, and takes the edit out again.
 
-    tools/plant.py [NAME..]     the bugs of tools/planted/NAME.txt; all of them if none is named
+    tools/plant.py [NAME..]     the edits of tools/planted/NAME.txt; all of them if none is named
 
-A bug is a file of five lines: `bug:` what is wrong, `crate:`, `file:`, `old:` (standing once in that file) and `new:`; in the
-last two, a \\n is the end of a line.
-For each one a row of the table in docs/PLANTED.md is printed: the bug, its crate, and what no longer holds: a function, its first
-clause, and the needs under which the check asks for it. Ends with status 1 where a bug is still proved.
+An edit is a file of lines: `bug:` what is wrong, `crate:`, `file:`, `old:` (standing once in that file) and `new:`; in the
+last two, a \\\\n is the end of a line. An edit of a
+definition, under specs/, has one line more: `lost:` a lemma that has to be refused, and what it says.
+For each one a row of a table in docs/PLANTED.md is printed. Of code: the bug, its crate, and what no longer holds: a function, its first
+clause, and the needs under which the check asks for it. Of definitions: the edit, the definition, the lemma, the samples that no longer
+come out, and the theorems that are lost with it. Ends with status 1 where all is still proved, or another lemma is refused than is named.
 """
 import pathlib
 import re
@@ -22,11 +24,16 @@ UNFIT = re.compile(r"that can be named from here|has no field|is not in scope")
 
 def read_bug(path):
     fields = dict(line.split(": ", 1) for line in path.read_text().splitlines() if line)
-    if tuple(fields) != KEYS:
-        sys.exit(f"{path}: wants the lines {', '.join(KEYS)}")
+    wanted = KEYS + ("lost",) if fields.get("file", "").startswith("specs/") else KEYS
+    if tuple(fields) != wanted:
+        sys.exit(f"{path}: wants the lines {', '.join(wanted)}")
     for key in ("old", "new"):
         fields[key] = fields[key].replace("\\n", "\n")
     return fields
+
+
+def ticked(names):
+    return ", ".join(f"`{name}`" for name in dict.fromkeys(names))
 
 
 def unmet(log):
@@ -48,18 +55,41 @@ def clause(crate, function):
     return re.sub(r"\(now \((\w+) \.entry\)\)", r"\1", fact.group(1)) if fact else "?"
 
 
-def check(crate):
-    run = subprocess.run(["rt", "dev", crate], cwd=ROOT, capture_output=True, text=True)
+def in_code(bug, log):
+    """The row of a bug in the code, and whether it was not caught."""
+    needs = unmet(log)
+    caught = [f"`{f}`: `{clause(bug['crate'], f)}` ({ticked(ns)})" for f, ns in needs.items()]
+    return f"{bug['crate']} | {'; '.join(caught) or 'NO FACT NAMED'}", not caught
+
+
+def defined(bug):
+    """The name of the definition that the edit stands in."""
+    text = (ROOT / "crates" / bug["crate"] / bug["file"]).read_text()
+    return re.findall(r"\bpub (\S+) :", text[: text.index(bug["old"])])[-1]
+
+
+def in_definitions(bug, log):
+    """The row of an edit of the definitions, and whether its lemma was not refused."""
+    place = f"`{defined(bug)}` in `{bug['file'].removeprefix('specs/')}`"
+    if re.search(r"^\S*/specs/\S+: error: ", log, re.M):
+        return f"{place} | NO DEFINITION", True
+    refused = {name: file for file, name in re.findall(r"^\S*/proofs/(\S+\.antt):\d+:\d+: error: `([^`]+)`: ", log, re.M)}
+    samples = re.findall(r"/proofs/(?:Guard|Worked)Facts\.antt:\S+ error: .*?expected type `(?:Rattle\.model\.specs\.Guards\.)?([^`·]+)`", log)
+    theorems = re.findall(r"^fn [^:]+::(\S+): not proved", log, re.M)
+    lemma, says = bug["lost"].split(": ", 1)
+    if lemma not in refused:
+        return f"{place} | ANOTHER LEMMA: {ticked(refused)}", True
+    return f"{place} | `{lemma}` in `{refused[lemma]}`: {says} | {ticked(samples)} | {ticked(theorems)}", False
+
+
+def check(bug):
+    run = subprocess.run(["rt", "dev", bug["crate"]], cwd=ROOT, capture_output=True, text=True)
     log = run.stdout + run.stderr
     if run.returncode == 0:
         return "STILL PROVED", True
     if "logic=not-proved" not in log:
         return "NOT CHECKED: " + (log.splitlines() or ["no output"])[-1], True
-    needs = unmet(log)
-    if not needs:
-        return "NO FACT NAMED", True
-    rows = [f"`{f}`: `{clause(crate, f)}` (" + ", ".join(f"`{n}`" for n in dict.fromkeys(ns)) + ")" for f, ns in needs.items()]
-    return "; ".join(rows), False
+    return log, False
 
 
 def plant(path):
@@ -70,10 +100,12 @@ def plant(path):
         sys.exit(f"{path}: the old text stands {text.count(bug['old'])} times in {source}")
     try:
         source.write_text(text.replace(bug["old"], bug["new"]))
-        verdict, survived = check(bug["crate"])
+        row, survived = check(bug)
     finally:
         source.write_text(text)
-    print(f"| {bug['bug']} | {bug['crate']} | {verdict} |", flush=True)
+    if not survived:
+        row, survived = (in_definitions if "lost" in bug else in_code)(bug, row)
+    print(f"| {bug['bug']} | {row} |", flush=True)
     return survived
 
 

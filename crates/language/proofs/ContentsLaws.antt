@@ -25,7 +25,7 @@ use Rattle.language.specs.Contents.{listed, passed, name-there, names-from, ow
 use Rattle.language.proofs.StandsFacts.{Stands, stands-first, stands-second, stands-taken, length-eight, number-stands}
 use Rattle.language.proofs.HeadFacts.{length-with, name-stands, name-bytes}
 use Rattle.language.proofs.ByteFacts.{bytes-program}
-use Rattle.language.proofs.ProgramFacts.{params-spelled, some-params, fun-reads, whole-stands}
+use Rattle.language.proofs.ProgramFacts.{params-spelled, some-params, fun-reads, program-parts, program-number, program-funs}
 use Rattle.language.proofs.ContentsFacts.{names-none, names-more, owns-none, owns-turn, find-none, find-here, find-more}
 
 -- names that stand there are read
@@ -220,39 +220,18 @@ module _ (bs : List ℕ) (bytes : all-bytes bs ≡ true) (x : Name) where
 
 -- whole programs
 module _ (p : Program) (fit : a-program p ≡ true) where
-  program-parts : (length p ≤ 1024) × (every a-fun p ≡ true) × (length (program-spelled p) ≤ 65536)
-  program-parts =
-      let q = and-parts (leb (length p) 1024 && every a-fun p) (leb (length (program-spelled p)) 65536) fit in
-      let r = and-parts (leb (length p) 1024) (every a-fun p) (q .0) in
-      (leb-true _ _ (r .0), r .1, leb-true _ _ (q .1))
-
-  whole : Stands (program-spelled p) 0 (program-spelled p)
-  whole = whole-stands (program-spelled p)
-
-  pub program-short : (8 ≤ length (program-spelled p)) × (length (program-spelled p) ≤ 65536)
-  program-short = (omega (arith, length-append (eight (length p)) (flat fun-spelled p), length-eight (length p)), program-parts .2)
-
-  pub program-number : number-at (program-spelled p) 0 ≡ Some (length p)
-  program-number =
-      number-stands (program-spelled p) 0 (length p) (omega (arith, program-parts .0)) (stands-first (program-spelled p) 0 (eight (length p)) (flat fun-spelled p) whole)
-
-  pub program-funs : Stands (program-spelled p) 8 (flat fun-spelled p)
-  program-funs =
-      subst (λ m. Stands (program-spelled p) m (flat fun-spelled p)) (omega (arith, length-eight (length p)))
-      (stands-second (program-spelled p) 0 (eight (length p)) (flat fun-spelled p) whole)
-
   pub fine-law : is-fine (program-spelled p) ≡ (distinct (each (λ f. f .name) p) && every (λ f. distinct (f .params)) p)
   unfolding is-fine
   fine-law =
-      ap (λ o. passed o (λ n. names-differ (program-spelled p) n)) program-number
-      ∙ ap₂ (λ xs b. distinct xs && b) (names-law (program-spelled p) (bytes-program p fit) 8 p (program-parts .1) program-funs)
-      (owns-law (program-spelled p) (bytes-program p fit) 8 p (program-parts .1) program-funs)
+      ap (λ o. passed o (λ n. names-differ (program-spelled p) n)) (program-number p fit)
+      ∙ ap₂ (λ xs b. distinct xs && b) (names-law (program-spelled p) (bytes-program p fit) 8 p (program-parts p fit .1) (program-funs p fit))
+      (owns-law (program-spelled p) (bytes-program p fit) 8 p (program-parts p fit .1) (program-funs p fit))
 
   find-in : (x : Name) → find-function (program-spelled p) x ≡ find-from (length p) (program-spelled p) x 8
-  find-in x = ap (λ o. found o (λ n. find-from n (program-spelled p) x 8)) program-number
+  find-in x = ap (λ o. found o (λ n. find-from n (program-spelled p) x 8)) (program-number p fit)
 
   pub find-program-none : (x : Name) → fun-of p x ≡ [] → find-function (program-spelled p) x ≡ None
-  find-program-none x h = find-in x ∙ find-law-none (program-spelled p) (bytes-program p fit) x 8 p (program-parts .1) program-funs h
+  find-program-none x h = find-in x ∙ find-law-none (program-spelled p) (bytes-program p fit) x 8 p (program-parts p fit .1) (program-funs p fit) h
 
 -- f was found by the name x in the spelling of p
 pub record Found-in (p : Program) (x : Name) (f : Fun) : Type 0 where

@@ -1,25 +1,23 @@
 -- Expressions are skipped where they stand, and where something is skipped expressions stand. Both by induction on how many heads may be
 -- read, over all expressions that are still to come. Assumes nothing.
 use mathlib.Core.Path.{_≡_, refl, ap, ap₂, sym, _∙_, subst}
-use mathlib.Core.Bool.{Bool, true, false, _&&_}
+use mathlib.Core.Bool.{true}
 use mathlib.Core.List.{List, [], _∷_, _++_}
-use Prim.Native.Nat.{ℕ, zero, suc, _+_, _-_, _≤_, _<_}
+use Prim.Native.Nat.{ℕ, zero, suc, _+_, _-_, _≤_}
 use native.Mathlib.Omega.{arith}
 use native.Mathlib.Nat.{add-zero}
 use lib.Dec.{leb}
 use lib.ListN.{length, take, drop}
-use borrow.Author.Tests.{leb-true}
-use Rattle.std.specs.declared.option.Option.{Option}
-use Rattle.std.specs.declared.option.Option.the-variants.{Some, None}
-use Rattle.std.proofs.shelf.Lists.{append-assoc, length-append, length-drop, length-take-le, take-append-drop, nil-from-length}
+use Rattle.std.specs.declared.option.Option.the-variants.{Some}
+use Rattle.std.proofs.shelf.Lists.{append-assoc, length-append, length-drop, length-take-le, take-append-drop}
 use Rattle.std.proofs.shelf.Tests.{and-parts, and-from}
-use Rattle.language.specs.Basics.{pick, every, flat}
+use Rattle.language.specs.Basics.{every, flat}
 use Rattle.language.specs.Bytes.{all-bytes}
 use Rattle.language.specs.Expr.{Expr, parts}
 use Rattle.language.specs.Spelling.{expr-spelled}
 use Rattle.language.specs.Fits.{an-expr}
 use Rattle.language.specs.Heads.{Head, head-of, arity, head-spelled, a-head}
-use Rattle.language.specs.Reading.{found, Token, token, head-at, ends, expr-end}
+use Rattle.language.specs.Reading.{Token, token, head-at, ends}
 use Rattle.language.proofs.ListFacts.{every-take, every-drop, every-append, flat-append}
 use Rattle.language.proofs.ReadingFacts.{ends-done, ends-short, ends-more, ends-after, ends-turn, found-some, pick-found}
 use Rattle.language.proofs.StandsFacts.{Stands, stands-first, stands-second, stands-join, stands-in}
@@ -36,6 +34,17 @@ pub spelled-count : (es : List Expr) → length es ≤ length (flat expr-spelled
 spelled-count [] = omega arith
 spelled-count (e ∷ es) =
     omega (arith, spelled-long e, spelled-count es, length-append (expr-spelled e) (flat expr-spelled es))
+
+-- where expressions stand, the first one's head stands, and after it its parts and the others
+module _ (bs : List ℕ) (i : ℕ) (e : Expr) (es : List Expr) (s : Stands bs i (flat expr-spelled (e ∷ es))) where
+  all-stands : Stands bs i (head-spelled (head-of e) ++ flat expr-spelled (parts e ++ es))
+  all-stands = subst (Stands bs i) (spelled-next e es) s
+
+  pub first-stands : Stands bs i (head-spelled (head-of e))
+  first-stands = stands-first bs i (head-spelled (head-of e)) (flat expr-spelled (parts e ++ es)) all-stands
+
+  pub rest-stands : Stands bs (i + length (head-spelled (head-of e))) (flat expr-spelled (parts e ++ es))
+  rest-stands = stands-second bs i (head-spelled (head-of e)) (flat expr-spelled (parts e ++ es)) all-stands
 
 pub ends-stand : (f : ℕ) (bs : List ℕ) (i : ℕ) (es : List Expr) → every an-expr es ≡ true → Stands bs i (flat expr-spelled es) → length bs - i ≤ f →
     ends (length es) f bs i ≡ Some (i + length (flat expr-spelled es))
@@ -56,14 +65,11 @@ ends-stand (suc f) bs i (e ∷ es) fit s l =
     both : (an-expr e ≡ true) × (every an-expr es ≡ true)
     both = and-parts (an-expr e) (every an-expr es) fit
 
-    all : Stands bs i (head-spelled (head-of e) ++ flat expr-spelled (parts e ++ es))
-    all = subst (Stands bs i) (spelled-next e es) s
-
     first : Stands bs i (head-spelled (head-of e))
-    first = stands-first bs i (head-spelled (head-of e)) (flat expr-spelled (parts e ++ es)) all
+    first = first-stands bs i e es s
 
     after : Stands bs (i + length (head-spelled (head-of e))) (flat expr-spelled (parts e ++ es))
-    after = stands-second bs i (head-spelled (head-of e)) (flat expr-spelled (parts e ++ es)) all
+    after = rest-stands bs i e es s
 
     room : length (parts e ++ es) ≤ length bs - (i + length (head-spelled (head-of e)))
     room =

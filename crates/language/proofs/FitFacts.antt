@@ -13,6 +13,7 @@ use Rattle.language.specs.Bytes.{in-bytes, eight, with-length, all-bytes, Name
 use Rattle.language.specs.Expr.{Expr, num, var, bin, call, bind, choice, tell, Exprs, expr-and, count-exprs}
 use Rattle.language.specs.Spelling.{expr-spelled, exprs-spelled}
 use Rattle.language.specs.Fits.{a-name, an-expr, all-exprs}
+use Rattle.language.proofs.StandsFacts.{length-eight}
 
 and-three : (a b c : Bool) → (a && (b && c)) ≡ true → (a ≡ true) × (b ≡ true) × (c ≡ true)
 and-three a b c h = let t = and-parts a (b && c) h in let u = and-parts b c (t .1) in (t .0, u .0, u .1)
@@ -68,12 +69,8 @@ pub name-short : (x : Name) → a-name x ≡ true → length x ≤ 32
 name-short x h =
     leb-true (length x) 32 (and-parts (leb 1 (length x)) (leb (length x) 32) (and-parts (leb 1 (length x) && leb (length x) 32) (all-bytes x) h .0) .1)
 
-pub eight-long : (n : ℕ) → length (eight n) ≡ 8
-unfolding in-bytes
-eight-long n = refl
-
 pub name-long : (x : Name) → length (with-length x) ≡ length x + 8
-name-long x = omega (arith, length-append (eight (length x)) x, eight-long (length x))
+name-long x = omega (arith, length-append (eight (length x)) x, length-eight (length x))
 
 pub num-long : (n : ℕ) → length (expr-spelled (num n)) ≡ 9
 unfolding expr-spelled in-bytes
@@ -108,12 +105,3 @@ tell-long a = omega arith
 pub exprs-long : (e : Expr) (es : Exprs) → length (exprs-spelled (expr-and e es)) ≡ length (expr-spelled e) + length (exprs-spelled es)
 unfolding exprs-spelled
 exprs-long e es = length-append (expr-spelled e) (exprs-spelled es)
-
-pub spelled-pos : (e : Expr) → 1 ≤ length (expr-spelled e)
-spelled-pos (num n) = omega (arith, num-long n)
-spelled-pos (var x) = omega (arith, var-long x)
-spelled-pos (bin k a b) = omega (arith, bin-long k a b)
-spelled-pos (call f es) = omega (arith, call-long f es)
-spelled-pos (bind x a b) = omega (arith, bind-long x a b)
-spelled-pos (choice c a b) = omega (arith, choice-long c a b)
-spelled-pos (tell a) = omega (arith, tell-long a)

@@ -2,17 +2,17 @@
 use mathlib.Core.Path.{_≡_, refl, ap, ap₂, sym, _∙_, subst}
 use mathlib.Core.Bool.{Bool, true, false, _&&_}
 use mathlib.Core.List.{List, [], _∷_, _++_}
-use Prim.Native.Nat.{ℕ, zero, suc, _+_, _-_, _*_, _≤_, _<_}
+use Prim.Native.Nat.{ℕ, _+_, _-_, _≤_, _<_}
 use native.Mathlib.Omega.{arith}
 use lib.Dec.{ltb, leb, eqb}
 use lib.ListN.{length, getD, take, drop}
-use borrow.Author.Tests.{clash, le-leb, leb-true, ltb-true, lt-ltb, eqb-true}
+use borrow.Author.Tests.{le-leb, leb-true, ltb-true, lt-ltb, eqb-true}
 use Rattle.std.specs.declared.option.Option.{Option}
 use Rattle.std.specs.declared.option.Option.the-variants.{Some, None}
 use Rattle.std.specs.Holes.{between}
-use Rattle.std.proofs.shelf.Lists.{length-append, length-drop, length-take, length-take-le}
+use Rattle.std.proofs.shelf.Lists.{length-append, length-drop, length-take-le}
 use Rattle.std.proofs.shelf.Tests.{and-parts, and-from}
-use Rattle.language.specs.Basics.{pick, every}
+use Rattle.language.specs.Basics.{pick}
 use Rattle.language.specs.Bytes.{Name, eight, with-length, all-bytes}
 use Rattle.language.specs.Expr.{limit}
 use Rattle.language.specs.Fits.{a-name}
@@ -21,7 +21,7 @@ use Rattle.language.specs.Reading.{found, number-at, name-end, Token, token, n
 use native.Mathlib.Nat.{add-zero}
 use Rattle.language.proofs.ListFacts.{every-take, every-drop}
 use Rattle.language.proofs.ReadingFacts.{found-some, pick-some, pick-found}
-use Rattle.language.proofs.StandsFacts.{Stands, stands-first, stands-second, stands-join, stands-in, stands-taken, taken-stands, stands-byte, byte-stands, length-eight, bytes-below, number-stands, Number-there, number-there}
+use Rattle.language.proofs.StandsFacts.{Stands, stands-first, stands-second, stands-join, stands-in, stands-taken, taken-stands, stands-byte, byte-stands, length-eight, number-stands, Number-there, number-there}
 
 pub length-with : (x : List ℕ) → length (with-length x) ≡ 8 + length x
 length-with x = length-append (eight (length x)) x ∙ ap (λ k. k + length x) (length-eight (length x))
@@ -231,10 +231,11 @@ call-there bs i t bytes e =
     })
 
 -- one kind after the other
-either : {R : Type 0} (k n : ℕ) (this rest : Option Token) (t : Token) → (k ≡ n → this ≡ Some t → R) → (rest ≡ Some t → R) → pick (eqb k n) this rest ≡ Some t → R
-either {R} k n this rest t yes-it no-it e = go (eqb k n) refl e
+pub either : {A R : Type 0} (k n : ℕ) (this rest : Option A) (a : A) → (k ≡ n → this ≡ Some a → R) → (rest ≡ Some a → R) →
+    pick (eqb k n) this rest ≡ Some a → R
+either {A} {R} k n this rest a yes-it no-it e = go (eqb k n) refl e
   where
-    go : (b : Bool) → eqb k n ≡ b → pick b this rest ≡ Some t → R
+    go : (t : Bool) → eqb k n ≡ t → pick t this rest ≡ Some a → R
     go true h e = yes-it (eqb-true k n h) e
     go false h e = no-it e
 

@@ -52,10 +52,6 @@ pub each-append : {A B : Type 0} (f : A → B) (xs ys : List A) → each f (xs +
 each-append f [] ys = refl
 each-append f (x ∷ xs) ys = ap (_∷_ (f x)) (each-append f xs ys)
 
-pub length-each : {A B : Type 0} (f : A → B) (xs : List A) → length (each f xs) ≡ length xs
-length-each f [] = refl
-length-each f (x ∷ xs) = ap suc (length-each f xs)
-
 -- a loop that tests one element after the other
 module _ {A : Type 0} (p : A → Bool) (xs : List A) (i : ℕ) (d : A) where
   pub every-more : i < length xs → p (getD xs i d) ≡ true → every p (drop i xs) ≡ every p (drop (i + 1) xs)

@@ -1,28 +1,28 @@
 -- What stands at a place is one thing: no two names, expressions, functions or programs that fit are spelled alike. Assumes nothing.
 use mathlib.Core.Path.{_≡_, refl, ap, ap₂, sym, _∙_, subst}
-use mathlib.Core.Bool.{Bool, true, false, _&&_}
+use mathlib.Core.Bool.{Bool, true, _&&_}
 use mathlib.Core.List.{List, [], _∷_, _++_}
-use Prim.Native.Nat.{ℕ, zero, suc, _+_, _-_, _≤_, _<_}
+use Prim.Native.Nat.{ℕ, zero, suc, _+_, _-_, _<_}
 use native.Mathlib.Omega.{arith}
-use lib.Dec.{leb, eqb}
+use lib.Dec.{leb}
 use lib.ListN.{length, getD, take, drop}
 use borrow.Author.Tests.{leb-true}
-use Rattle.std.specs.declared.option.Option.the-variants.{Some, None}
+use Rattle.std.specs.declared.option.Option.the-variants.{Some}
 use Rattle.std.specs.Holes.{between}
 use Rattle.std.proofs.shelf.Lists.{append-nil, length-append, take-at, drop-at}
 use Rattle.std.proofs.shelf.Tests.{and-parts, and-from}
 use Rattle.language.specs.Basics.{every, flat}
-use Rattle.language.specs.Bytes.{Name, eight, with-length, all-bytes}
-use Rattle.language.specs.Expr.{Expr, Exprs, num, var, bin, call, bind, choice, tell, no-exprs, expr-and, exprs-in, count-exprs, parts, Fun, Program}
+use Rattle.language.specs.Bytes.{Name, eight, with-length}
+use Rattle.language.specs.Expr.{Expr, Exprs, num, var, bin, call, bind, choice, tell, no-exprs, expr-and, exprs-in, parts, Fun, Program}
 use Rattle.language.specs.Spelling.{expr-spelled, fun-spelled, program-spelled}
 use Rattle.language.specs.Fits.{a-name, an-expr, a-fun, a-program}
 use Rattle.language.specs.Heads.{Head, h-num, h-var, h-bin, h-call, h-bind, h-choice, h-tell, head-of, arity, head-spelled, a-head}
-use Rattle.language.specs.Reading.{number-at, name-end, Token, token, head-at}
+use Rattle.language.specs.Reading.{Token}
 use Rattle.language.proofs.ListFacts.{every-append}
 use Rattle.language.proofs.StandsFacts.{Stands, stands-first, stands-second, stands-in, length-eight, number-stands}
-use Rattle.language.proofs.HeadFacts.{length-with, name-stands, name-bytes, head-stands}
+use Rattle.language.proofs.HeadFacts.{name-stands, name-bytes, head-stands}
 use Rattle.language.proofs.NodeFacts.{parts-arity, head-fits, head-long}
-use Rattle.language.proofs.ExprFacts.{spelled-next, spelled-count}
+use Rattle.language.proofs.ExprFacts.{first-stands, rest-stands}
 use Rattle.language.proofs.ProgramFacts.{params-spelled, some-params, fun-parts, whole-stands}
 
 -- an expression again from its head and its parts
@@ -77,16 +77,6 @@ abbrev Same-exprs : ℕ → List ℕ → Type 0
 Same-exprs n bs =
     (i : ℕ) (es ds : List Expr) → every an-expr es ≡ true → every an-expr ds ≡ true → length es ≡ length ds →
     Stands bs i (flat expr-spelled es) → Stands bs i (flat expr-spelled ds) → length bs - i < n → es ≡ ds
-
-module _ (bs : List ℕ) (i : ℕ) (e : Expr) (es : List Expr) (s : Stands bs i (flat expr-spelled (e ∷ es))) where
-  all-stands : Stands bs i (head-spelled (head-of e) ++ flat expr-spelled (parts e ++ es))
-  all-stands = subst (Stands bs i) (spelled-next e es) s
-
-  first-stands : Stands bs i (head-spelled (head-of e))
-  first-stands = stands-first bs i (head-spelled (head-of e)) (flat expr-spelled (parts e ++ es)) all-stands
-
-  rest-stands : Stands bs (i + length (head-spelled (head-of e))) (flat expr-spelled (parts e ++ es))
-  rest-stands = stands-second bs i (head-spelled (head-of e)) (flat expr-spelled (parts e ++ es)) all-stands
 
 -- the heads are the same, hence the parts and the others, hence the first
 module _ (n : ℕ) (bs : List ℕ) (again : Same-exprs n bs) (i : ℕ) (e d : Expr) (es ds : List Expr) (h : every an-expr (e ∷ es) ≡ true) (k : every an-expr (d ∷ ds) ≡ true)

@@ -10,7 +10,7 @@ use lib.Dec.{ltb}
 use lib.ListN.{length, getD, take}
 use borrow.Author.Tests.{lt-ltb}
 use Rattle.std.specs.Iters.{counting}
-use Rattle.std.proofs.shelf.Lists.{length-append, getD-append-left, ext-getD, take-more}
+use Rattle.std.proofs.shelf.Lists.{length-append, getD-append-left, ext-getD}
 use Rattle.std.proofs.shelf.Counted.{length-map-counting, getD-map-counting}
 use Rattle.std.proofs.shelf.Tests.{and-from}
 use Rattle.language.specs.Basics.{every, flat}
@@ -26,11 +26,6 @@ length-packed-words bs = length-map-counting (word-of bs) 0 (words-for (length b
 pub packed-word : (bs : List ℕ) (k : ℕ) → k < words-for (length bs) → getD (packed bs) k 0 ≡ word-of bs k
 unfolding packed
 packed-word bs k h = getD-map-counting (word-of bs) 0 (words-for (length bs)) k k 0 h (omega arith)
-
--- one more word is written
-pub packed-more : (bs : List ℕ) (k : ℕ) → k < words-for (length bs) → take (k + 1) (packed bs) ≡ take k (packed bs) ++ word-of bs k ∷ []
-packed-more bs k h =
-    take-more (packed bs) k 0 (omega (arith, length-packed-words bs)) ∙ ap (λ w. take k (packed bs) ++ w ∷ []) (packed-word bs k h)
 
 -- the bytes of the kth word
 eight-from : List ℕ → ℕ → List ℕ

@@ -1,17 +1,17 @@
 -- Names, functions and programs are read where they stand, and what is read stands there. Assumes nothing.
-use mathlib.Core.Path.{_≡_, refl, ap, ap₂, sym, _∙_, subst}
-use mathlib.Core.Bool.{Bool, true, false, _&&_}
+use mathlib.Core.Path.{_≡_, refl, ap, sym, _∙_, subst}
+use mathlib.Core.Bool.{Bool, true, _&&_}
 use mathlib.Core.List.{List, [], _∷_, _++_}
-use Prim.Native.Nat.{ℕ, zero, suc, _+_, _-_, _≤_, _<_}
+use Prim.Native.Nat.{ℕ, zero, suc, _+_, _≤_, _<_}
 use native.Mathlib.Omega.{arith}
 use native.Mathlib.Nat.{add-zero}
 use lib.Dec.{leb, eqb}
-use lib.ListN.{length, take, drop}
+use lib.ListN.{length, drop}
 use borrow.Author.Tests.{clash, leb-true, le-leb, eqb-true, eq-eqb}
 use Rattle.std.specs.declared.option.Option.{Option}
 use Rattle.std.specs.declared.option.Option.the-variants.{Some, None}
 use Rattle.std.specs.Holes.{between}
-use Rattle.std.proofs.shelf.Lists.{append-assoc, append-nil, length-append, length-drop, drop-all}
+use Rattle.std.proofs.shelf.Lists.{append-assoc, append-nil, length-append, drop-all}
 use Rattle.std.proofs.shelf.Tests.{and-parts, and-from}
 use Rattle.language.specs.Basics.{pick, every, flat}
 use Rattle.language.specs.Bytes.{Name, eight, with-length, all-bytes}
@@ -19,9 +19,9 @@ use Rattle.language.specs.Expr.{Expr, Fun, Program}
 use Rattle.language.specs.Spelling.{expr-spelled, fun-spelled, program-spelled}
 use Rattle.language.specs.Fits.{a-name, an-expr, a-fun, a-program}
 use Rattle.language.specs.Reading.{found, times, number-at, name-end, ends, expr-end, params-end, fun-end, ends-at, funs-fill, is-program}
-use Rattle.language.proofs.ReadingFacts.{times-done, times-more, found-some, pick-some, pick-found}
-use Rattle.language.proofs.StandsFacts.{Stands, stands-first, stands-second, stands-join, stands-in, length-eight, number-stands, Number-there, number-there}
-use Rattle.language.proofs.HeadFacts.{length-with, name-stands, Name-there, name-there}
+use Rattle.language.proofs.ReadingFacts.{times-done, times-more, found-some, pick-found}
+use Rattle.language.proofs.StandsFacts.{Stands, stands-first, stands-second, stands-join, length-eight, number-stands, number-there}
+use Rattle.language.proofs.HeadFacts.{length-with, name-stands, name-there}
 use Rattle.language.proofs.ExprFacts.{ends-stand, Exprs-there, ends-there}
 
 -- something that fits stands there, and ends there
@@ -244,29 +244,42 @@ program-was bs bytes e = go (number-at bs 0) refl (q .1)
         let r = and-parts (leb n 1024) (ends-at (times n (fun-end bs) 8) (length bs)) z in
         full n (times n (fun-end bs) 8) h (r .0) refl (r .1)
 
+-- the spelling of a program that fits: how long it is, its count, and its functions after it
+module _ (p : Program) (fit : a-program p ≡ true) where
+  pub program-parts : (length p ≤ 1024) × (every a-fun p ≡ true) × (length (program-spelled p) ≤ 65536)
+  program-parts =
+      let q = and-parts (leb (length p) 1024 && every a-fun p) (leb (length (program-spelled p)) 65536) fit in
+      let r = and-parts (leb (length p) 1024) (every a-fun p) (q .0) in
+      (leb-true _ _ (r .0), r .1, leb-true _ _ (q .1))
+
+  whole : Stands (program-spelled p) 0 (program-spelled p)
+  whole = whole-stands (program-spelled p)
+
+  pub program-short : (8 ≤ length (program-spelled p)) × (length (program-spelled p) ≤ 65536)
+  program-short = (omega (arith, length-append (eight (length p)) (flat fun-spelled p), length-eight (length p)), program-parts .2)
+
+  pub program-number : number-at (program-spelled p) 0 ≡ Some (length p)
+  program-number =
+      number-stands (program-spelled p) 0 (length p) (omega (arith, program-parts .0)) (stands-first (program-spelled p) 0 (eight (length p)) (flat fun-spelled p) whole)
+
+  pub program-funs : Stands (program-spelled p) 8 (flat fun-spelled p)
+  program-funs =
+      subst (λ m. Stands (program-spelled p) m (flat fun-spelled p)) (omega (arith, length-eight (length p)))
+      (stands-second (program-spelled p) 0 (eight (length p)) (flat fun-spelled p) whole)
+
 pub program-read : (p : Program) → all-bytes (program-spelled p) ≡ true → a-program p ≡ true → is-program (program-spelled p) ≡ true
 program-read p bytes fit =
-    and-from _ _ (q .1)
-    (ap (funs-fill bs) (number-stands bs 0 (length p) (omega (arith, few)) (stands-first bs 0 (eight (length p)) (flat fun-spelled p) whole))
-    ∙ and-from _ _ (r .0) (ap (λ o. ends-at o (length bs)) (funs-read bs bytes (length p) .read 8 p (and-from _ _ (r .1) (eq-eqb (length p) (length p) refl)) funs) ∙ eq-eqb _ _ ends))
+    and-from _ _ (le-leb _ _ (program-parts p fit .2))
+    (ap (funs-fill bs) (program-number p fit)
+    ∙ and-from _ _ (le-leb _ _ (program-parts p fit .0)) (ap (λ o. ends-at o (length bs)) read ∙ eq-eqb _ _ ends))
   where
     bs : List ℕ
     bs = program-spelled p
 
-    q : ((leb (length p) 1024 && every a-fun p) ≡ true) × (leb (length (program-spelled p)) 65536 ≡ true)
-    q = and-parts (leb (length p) 1024 && every a-fun p) (leb (length (program-spelled p)) 65536) fit
-
-    r : (leb (length p) 1024 ≡ true) × (every a-fun p ≡ true)
-    r = and-parts (leb (length p) 1024) (every a-fun p) (q .0)
-
-    few : length p ≤ 1024
-    few = leb-true _ _ (r .0)
-
-    whole : Stands (program-spelled p) 0 (program-spelled p)
-    whole = whole-stands (program-spelled p)
-
-    funs : Stands (program-spelled p) 8 (flat fun-spelled p)
-    funs = subst (λ m. Stands (program-spelled p) m (flat fun-spelled p)) (omega (arith, length-eight (length p))) (stands-second (program-spelled p) 0 (eight (length p)) (flat fun-spelled p) whole)
+    read : times (length p) (fun-end (program-spelled p)) 8 ≡ Some (8 + length (flat fun-spelled p))
+    read =
+        funs-read (program-spelled p) bytes (length p) .read 8 p (and-from _ _ (program-parts p fit .1) (eq-eqb (length p) (length p) refl))
+        (program-funs p fit)
 
     ends : 8 + length (flat fun-spelled p) ≡ length (program-spelled p)
     ends = omega (arith, length-eight (length p), length-append (eight (length p)) (flat fun-spelled p))

@@ -12,19 +12,14 @@ use Rattle.std.specs.declared.option.Option.{Option}
 use Rattle.std.specs.declared.option.Option.the-variants.{Some, None}
 use Rattle.std.specs.Holes.{between}
 use Rattle.std.proofs.shelf.Lists.{append-assoc, length-set, take-more-set, drop-more, drop-all}
-use Rattle.language.specs.Basics.{every, each, flat, same}
-use Rattle.language.specs.Bytes.{Name, all-bytes}
-use Rattle.language.specs.Expr.{Fun}
+use Rattle.language.specs.Basics.{each, flat, same}
+use Rattle.language.specs.Bytes.{Name}
 use Rattle.language.specs.Names.{has, distinct}
-use Rattle.language.specs.Spelling.{fun-spelled}
-use Rattle.language.specs.Fits.{a-fun}
 use Rattle.language.specs.Reading.{name-end, fun-end}
 use Rattle.language.specs.Contents.{listed, name-there, fun-names}
 use Rattle.language.specs.Table.{hashed, hash, table-from, none-like, all-differ}
-use Rattle.language.proofs.ListFacts.{length-each}
 use Rattle.language.proofs.NameFacts.{same-eq, not-or}
-use Rattle.language.proofs.StandsFacts.{Stands}
-use Rattle.language.proofs.ContentsLaws.{fun-names-none, fun-names-no-name, fun-names-cut, fun-names-more, names-law}
+use Rattle.language.proofs.ContentsLaws.{fun-names-none, fun-names-no-name, fun-names-cut, fun-names-more}
 
 -- one byte after the other
 pub hashed-more : (h : ℕ) (x : Name) (k : ℕ) → k < length x → hashed h (drop k x) ≡ hashed ((h * 1099511628211 + getD x k 0) % 18446744073709551616) (drop (k + 1) x)
@@ -131,17 +126,6 @@ module _ (bs : List ℕ) where
 
   pub table-law : (n i : ℕ) → all-differ bs (table-from n bs i) ≡ distinct (fun-names n bs i)
   table-law n i = let r = entries n i in ap (all-differ bs) (r .table) ∙ differ-law (r .offsets) ∙ sym (ap distinct (r .names))
-
-  two-each : (os : List ℕ) → length (flat entry os) ≡ 2 * length (each (name-there bs) os)
-  unfolding entry
-  two-each [] = refl
-  two-each (o ∷ os) = omega (arith, two-each os)
-
-  pub table-two : (n i : ℕ) → length (table-from n bs i) ≡ 2 * length (fun-names n bs i)
-  table-two n i = let r = entries n i in ap length (r .table) ∙ two-each (r .offsets) ∙ sym (ap (λ xs. 2 * length xs) (r .names))
-
-  pub table-long : all-bytes bs ≡ true → (i : ℕ) (fs : List Fun) → every a-fun fs ≡ true → Stands bs i (flat fun-spelled fs) → length (table-from (length fs) bs i) ≡ 2 * length fs
-  table-long bytes i fs fit s = table-two (length fs) i ∙ ap (λ xs. 2 * length xs) (names-law bs bytes i fs fit s) ∙ ap (λ n. 2 * n) (length-each (λ (f : Fun). f .name) fs)
 
 -- one entry of a table after the other
 module _ (t : List ℕ) (k : ℕ) where

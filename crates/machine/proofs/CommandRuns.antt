@@ -22,9 +22,9 @@ use Rattle.language.specs.Reading.{found, name-end, fun-end}
 use Rattle.language.specs.Contents.{listed, is-fine, find-function}
 use Rattle.language.proofs.ByteFacts.{bytes-program}
 use Rattle.language.proofs.StandsFacts.{Stands, length-eight}
-use Rattle.language.proofs.ProgramFacts.{fun-long}
+use Rattle.language.proofs.ProgramFacts.{fun-long, program-short, program-funs}
 use Rattle.language.proofs.ProgramFits.{program-fits}
-use Rattle.language.proofs.ContentsLaws.{Next-fun, next-fun, program-short, program-funs, fine-law, find-program-none, Found-in, find-program-some}
+use Rattle.language.proofs.ContentsLaws.{Next-fun, next-fun, fine-law, find-program-none, Found-in, find-program-some}
 use Rattle.model.specs.Command.{Command, load, show, names, undo, fits}
 use Rattle.model.specs.State.{Plain, Turn, no, yes-with, at-first-fun, fine}
 use Rattle.model.specs.Model.{undone, turn}

@@ -115,11 +115,11 @@ module _ (bs : List ℕ) (fit : is-program bs ≡ true) where
   parts : (leb (length bs) 65536 ≡ true) × (funs-fill bs (number-at bs 0) ≡ true)
   parts = and-parts (leb (length bs) 65536) (funs-fill bs (number-at bs 0)) fit
 
-  pub program-short : length bs ≤ 65536
-  program-short = leb-true _ _ (parts .0)
+  pub bytes-short : length bs ≤ 65536
+  bytes-short = leb-true _ _ (parts .0)
 
-  pub program-counted : 8 ≤ length bs
-  program-counted = go (leb 8 (length bs)) refl (parts .1)
+  pub bytes-counted : 8 ≤ length bs
+  bytes-counted = go (leb 8 (length bs)) refl (parts .1)
     where
       go : (t : Bool) → leb 8 (length bs) ≡ t → funs-fill bs (pick t (Some (number 256 (take 8 (drop 0 bs)))) None) ≡ true → 8 ≤ length bs
       go true e h = leb-true _ _ e

@@ -14,9 +14,9 @@ use Rattle.language.specs.Bytes.{Name, all-bytes}
 use Rattle.language.specs.Spelling.{program-spelled}
 use Rattle.language.specs.Reading.{found, name-end, fun-end}
 use Rattle.language.specs.Contents.{is-fine}
+use Rattle.language.proofs.ProgramFacts.{program-short}
 use Rattle.language.proofs.ReadingFacts.{found-some}
 use Rattle.language.proofs.ByteFacts.{bytes-program}
-use Rattle.language.proofs.ContentsLaws.{program-short}
 use Rattle.model.specs.Command.{Command, load, show, names, rename-bind, rename-param, rename-fun, extract, inline-bind, inline-call, turn-cond, drop-fun, undo}
 use Rattle.model.specs.Engine.{Event, said, next, refused, done, shows, Steady}
 use Rattle.model.specs.Reading.{Ask, loading, asking, Asks, asked}

@@ -1,13 +1,12 @@
 -- A text asks for the command that is spelled so and fits, and for no other. Assumes nothing.
 use mathlib.Core.Path.{_≡_, refl, ap, ap₂, sym, _∙_, subst}
-use mathlib.Core.Bool.{Bool, true, false, _&&_}
+use mathlib.Core.Bool.{true, _&&_}
 use mathlib.Core.List.{List, [], _∷_, _++_}
-use Prim.Native.Nat.{ℕ, _+_, _≤_, _<_}
+use Prim.Native.Nat.{ℕ, _<_}
 use native.Mathlib.Omega.{arith}
-use lib.Dec.{eqb, ltb, leb}
-use lib.ListN.{length, getD, drop}
-use borrow.Author.Tests.{clash, leb-true, ltb-true, eqb-true}
-use Rattle.std.specs.declared.option.Option.{Option}
+use lib.Dec.{ltb, leb}
+use lib.ListN.{length, getD}
+use borrow.Author.Tests.{clash, ltb-true}
 use Rattle.std.specs.declared.option.Option.the-variants.{Some, None}
 use Rattle.std.proofs.shelf.Lists.{append-assoc, append-nil}
 use Rattle.std.proofs.shelf.Tests.{and-parts, and-from}
@@ -19,11 +18,12 @@ use Rattle.language.specs.Fits.{a-name, a-program}
 use Rattle.language.specs.Reading.{found, is-program}
 use Rattle.language.proofs.ByteFacts.{bytes-append, bytes-first, bytes-eight, bytes-name, bytes-program}
 use Rattle.language.proofs.ReadingFacts.{found-some, pick-some, pick-found}
+use Rattle.language.proofs.HeadFacts.{either}
 use Rattle.language.proofs.ProgramFacts.{program-read, program-was}
 use Rattle.model.specs.Command.{Command, load, show, names, rename-bind, rename-param, rename-fun, extract, inline-bind, inline-call, turn-cond, drop-fun, undo, place-spelled, spelled, a-place, fits}
 use Rattle.model.specs.Whole.{Said}
-use Rattle.model.specs.Reading.{Ask, loading, asking, Asks, Field, field, Located, located, Target, target, name-in, index-in, place-in, last-name, target-in, last-target, whole, load-in, by-name, by-names, by-place, by-place-name, by-index-name, command-in, of-kind, asked}
-use Rattle.model.proofs.FieldFacts.{Fields, name-fields, index-fields, an-index, place-fields}
+use Rattle.model.specs.Reading.{Ask, loading, asking, Asks, Field, Located, located, Target, target, name-in, index-in, place-in, last-name, target-in, last-target, whole, load-in, by-name, by-names, by-place, by-place-name, by-index-name, command-in, of-kind, asked}
+use Rattle.model.proofs.FieldFacts.{name-fields, index-fields, an-index, place-fields}
 
 -- nothing comes after it
 none-rest : (bs : List ℕ) → none-of bs ≡ true → bs ≡ []
@@ -119,52 +119,57 @@ record Read-so (c : Command) : Type 0 where
   it : Asks ask c
   bytes : all-bytes (spelled c) ≡ true
 
+-- of every command but loading: it asks for itself
+so : (c : Command) → of-kind (spelled c) ≡ Some (asking c) → all-bytes (spelled c) ≡ true → Read-so c
+unfolding Asks
+so c kind bytes = record { ask = asking c; kind = kind; it = refl; bytes = bytes }
+
+loading-so : (p : Program) → a-program p ≡ true → Read-so (load p)
+unfolding spelled Asks
+loading-so p h =
+    record {
+      ask = loading (program-spelled p);
+      kind = ap (λ t. pick t (Some (loading (program-spelled p))) None) (program-read p (bytes-program p h) h);
+      it = (p, refl, h, refl);
+      bytes = bytes-first 1 (program-spelled p) (omega arith) (bytes-program p h);
+    }
+
 read-so : (c : Command) → fits c ≡ true → Read-so c
-unfolding spelled fits Asks
-read-so (load p) h =
-    record { ask = loading (program-spelled p); kind = ap (λ t. pick t (Some (loading (program-spelled p))) None) (program-read p (bytes-program p h) h); it = (p, refl, h, refl); bytes = bytes-first 1 (program-spelled p) (omega arith) (bytes-program p h) }
-read-so (show x) h = record { ask = asking (show x); kind = name-reads x h show; it = refl; bytes = bytes-first 2 (with-length x) (omega arith) (bytes-name x h) }
-read-so names h = record { ask = asking names; kind = refl; it = refl; bytes = refl }
+unfolding spelled fits
+read-so (load p) h = loading-so p h
+read-so (show x) h = so (show x) (name-reads x h show) (bytes-first 2 (with-length x) (omega arith) (bytes-name x h))
+read-so names h = so names refl refl
 read-so (rename-bind x ks y) h =
     let q = and-parts (a-name x && a-name y) (a-place ks) h in
     let r = and-parts (a-name x) (a-name y) (q .0) in
-    record {
-      ask = asking (rename-bind x ks y);
-      kind = place-name-reads x (r .0) rename-bind ks y (q .1) (r .1);
-      it = refl;
-      bytes = three-bytes 4 x ks y (omega arith) (r .0) (q .1) (r .1);
-    }
+    so (rename-bind x ks y) (place-name-reads x (r .0) rename-bind ks y (q .1) (r .1)) (three-bytes 4 x ks y (omega arith) (r .0) (q .1) (r .1))
 read-so (rename-param x i y) h =
     let q = and-parts (a-name x && a-name y) (ltb i 16) h in
     let r = and-parts (a-name x) (a-name y) (q .0) in
-    record {
-      ask = asking (rename-param x i y);
-      kind = index-name-reads x (r .0) rename-param i y (q .1) (r .1);
-      it = refl;
-      bytes = bytes-first 5 (with-length x ++ i ∷ with-length y) (omega arith) (bytes-append (with-length x) (i ∷ with-length y) (bytes-name x (r .0)) (bytes-first i (with-length y) (omega (arith, ltb-true i 16 (q .1))) (bytes-name y (r .1))));
-    }
+    so (rename-param x i y) (index-name-reads x (r .0) rename-param i y (q .1) (r .1))
+    (bytes-first 5 (with-length x ++ i ∷ with-length y) (omega arith)
+    (bytes-append (with-length x) (i ∷ with-length y) (bytes-name x (r .0))
+    (bytes-first i (with-length y) (omega (arith, ltb-true i 16 (q .1))) (bytes-name y (r .1)))))
 read-so (rename-fun x y) h =
     let r = and-parts (a-name x) (a-name y) h in
-    record {
-      ask = asking (rename-fun x y);
-      kind = names-reads x (r .0) rename-fun y (r .1);
-      it = refl;
-      bytes = bytes-first 6 (with-length x ++ with-length y) (omega arith) (bytes-append (with-length x) (with-length y) (bytes-name x (r .0)) (bytes-name y (r .1)));
-    }
+    so (rename-fun x y) (names-reads x (r .0) rename-fun y (r .1))
+    (bytes-first 6 (with-length x ++ with-length y) (omega arith)
+    (bytes-append (with-length x) (with-length y) (bytes-name x (r .0)) (bytes-name y (r .1))))
 read-so (extract x ks y) h =
     let q = and-parts (a-name x && a-name y) (a-place ks) h in
     let r = and-parts (a-name x) (a-name y) (q .0) in
-    record {
-      ask = asking (extract x ks y);
-      kind = place-name-reads x (r .0) extract ks y (q .1) (r .1);
-      it = refl;
-      bytes = three-bytes 7 x ks y (omega arith) (r .0) (q .1) (r .1);
-    }
-read-so (inline-bind x ks) h = let r = and-parts (a-name x) (a-place ks) h in record { ask = asking (inline-bind x ks); kind = place-reads x (r .0) inline-bind ks (r .1); it = refl; bytes = two-bytes 8 x ks (omega arith) (r .0) (r .1) }
-read-so (inline-call x ks) h = let r = and-parts (a-name x) (a-place ks) h in record { ask = asking (inline-call x ks); kind = place-reads x (r .0) inline-call ks (r .1); it = refl; bytes = two-bytes 9 x ks (omega arith) (r .0) (r .1) }
-read-so (turn-cond x ks) h = let r = and-parts (a-name x) (a-place ks) h in record { ask = asking (turn-cond x ks); kind = place-reads x (r .0) turn-cond ks (r .1); it = refl; bytes = two-bytes 10 x ks (omega arith) (r .0) (r .1) }
-read-so (drop-fun x) h = record { ask = asking (drop-fun x); kind = name-reads x h drop-fun; it = refl; bytes = bytes-first 11 (with-length x) (omega arith) (bytes-name x h) }
-read-so undo h = record { ask = asking undo; kind = refl; it = refl; bytes = refl }
+    so (extract x ks y) (place-name-reads x (r .0) extract ks y (q .1) (r .1)) (three-bytes 7 x ks y (omega arith) (r .0) (q .1) (r .1))
+read-so (inline-bind x ks) h =
+    let r = and-parts (a-name x) (a-place ks) h in
+    so (inline-bind x ks) (place-reads x (r .0) inline-bind ks (r .1)) (two-bytes 8 x ks (omega arith) (r .0) (r .1))
+read-so (inline-call x ks) h =
+    let r = and-parts (a-name x) (a-place ks) h in
+    so (inline-call x ks) (place-reads x (r .0) inline-call ks (r .1)) (two-bytes 9 x ks (omega arith) (r .0) (r .1))
+read-so (turn-cond x ks) h =
+    let r = and-parts (a-name x) (a-place ks) h in
+    so (turn-cond x ks) (place-reads x (r .0) turn-cond ks (r .1)) (two-bytes 10 x ks (omega arith) (r .0) (r .1))
+read-so (drop-fun x) h = so (drop-fun x) (name-reads x h drop-fun) (bytes-first 11 (with-length x) (omega arith) (bytes-name x h))
+read-so undo h = so undo refl refl
 
 -- a command that is spelled so and fits is what the text asks for
 pub said-asked : (text : List ℕ) (c : Command) → Said text c → (a : Ask) × (asked text ≡ Some a) × Asks a c
@@ -284,14 +289,6 @@ module _ (k : ℕ) (bs : List ℕ) (bytes : all-bytes bs ≡ true) (a : Ask) whe
       let kept = pick-some (is-program bs) (loading bs) a e in
       let p = program-was bs bytes (kept .0) in
       subst (Written k bs) (kept .1) (load (p .0), ap₂ _∷_ (sym k-is) (p .1), p .2, (p .0, p .1, p .2, refl))
-
--- one kind after the other
-either : {R : Type 0} (k n : ℕ) (this rest : Option Ask) (a : Ask) → (k ≡ n → this ≡ Some a → R) → (rest ≡ Some a → R) → pick (eqb k n) this rest ≡ Some a → R
-either {R} k n this rest a it others e = go (eqb k n) refl e
-  where
-    go : (t : Bool) → eqb k n ≡ t → pick t this rest ≡ Some a → R
-    go true h e = it (eqb-true k n h) e
-    go false h e = others e
 
 kind-was : (k : ℕ) (bs : List ℕ) → all-bytes bs ≡ true → (a : Ask) → command-in k bs ≡ Some a → Written k bs a
 unfolding spelled fits

@@ -14,7 +14,7 @@ use Rattle.language.specs.Names.{has, distinct}
 use Rattle.language.specs.Bare.{b-bind, bare, alike}
 use Rattle.language.specs.Spelling.{expr-spelled}
 use Rattle.language.specs.Fits.{a-name, an-expr}
-use Rattle.language.proofs.NameFacts.{same-sym, or-left-false, or-right-false, or-false, has-append}
+use Rattle.language.proofs.NameFacts.{same-sym, or-left-false, or-right-false, or-false, not-or, has-append}
 use Rattle.language.proofs.BareSpelling.{alike-bare, bare-alike}
 use Rattle.language.proofs.FitFacts.{bind-fit, fit-bind, name-short, bind-long}
 use Rattle.language.proofs.PlaceFits.{at-fit, put-fit}
@@ -102,7 +102,7 @@ unfolding distinct
 distinct-put [] right x y d =
     ap (λ t. not (has right y) && t) (and-parts (not (has right x)) (distinct right) d .1) ∙ and-true (not (has right y))
 distinct-put (p ∷ left) right x y d =
-    ap₂ (λ s t. not s && t) only-y (distinct-put left right x y (both .1)) ∙ neither (same y p) (has (left ++ right) y)
+    ap₂ (λ s t. not s && t) only-y (distinct-put left right x y (both .1)) ∙ not-or (same y p) (has (left ++ right) y)
   where
     both : (not (has (left ++ x ∷ right) p) ≡ true) × (distinct (left ++ x ∷ right) ≡ true)
     both = and-parts (not (has (left ++ x ∷ right) p)) (distinct (left ++ x ∷ right)) d
@@ -111,10 +111,6 @@ distinct-put (p ∷ left) right x y d =
     only-y =
         let other = apart left right x p (not-true (has (left ++ x ∷ right) p) (both .0)) in
         has-append left (y ∷ right) p ∙ ap₂ (λ s t. or s (or (same p y) t)) (other .0) (other .2) ∙ or-false (same p y) ∙ same-sym p y
-
-    neither : (s t : Bool) → (not s && not t) ≡ not (or s t)
-    neither true t = refl
-    neither false t = refl
 
 module _ (left right : List Name) (body : Expr) (x y : Name) where
   abbrev old : List Name

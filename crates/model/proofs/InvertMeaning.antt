@@ -13,7 +13,7 @@ use Rattle.language.specs.Places.{at-place}
 use Rattle.language.proofs.Reach.{Reach, Run, later, sooner, then-reach, pick-reach, run-self, run-down}
 use Rattle.model.specs.Command.{turn-cond}
 use Rattle.model.specs.State.{Plain}
-use Rattle.model.specs.Invert.{cond-turned}
+use Rattle.model.specs.Invert.{if-turned, cond-turned}
 use Rattle.model.specs.Model.{turn}
 use Rattle.model.proofs.Kept.{Kept, kept-refused}
 use Rattle.model.proofs.KeptPlace.{kept-at, kept-put}
@@ -30,7 +30,7 @@ other-arm false a b = refl
 
 -- the condition, and then the same arm
 turned : (m : ℕ) (r : Program) (ds : List Bound) (c a b : Expr) →
-    eval (suc (suc (suc m))) r ds (choice (bin 4 c (num 0)) b a)
+    eval (suc (suc (suc m))) r ds (if-turned c a b)
     ≡ then (eval (suc m) r ds c) (λ v. pick (eqb v 0) (eval (suc (suc m)) r ds b) (eval (suc (suc m)) r ds a))
 unfolding eval step then after-telling
 turned m r ds c a b =
@@ -38,7 +38,7 @@ turned m r ds c a b =
     ∙ ap (then (eval (suc m) r ds c)) (fun-ext λ v. other-arm (eqb v 0) (eval (suc (suc m)) r ds a) (eval (suc (suc m)) r ds b))
 
 module _ (r : Program) (n : ℕ) (ds : List Bound) (c a b : Expr) where
-  reach-turned : Reach (eval (suc n) r ds (choice c a b)) (λ m. eval (suc (suc (suc m))) r ds (choice (bin 4 c (num 0)) b a))
+  reach-turned : Reach (eval (suc n) r ds (choice c a b)) (λ m. eval (suc (suc (suc m))) r ds (if-turned c a b))
   unfolding eval step
   reach-turned =
       subst (λ G. Reach (eval (suc n) r ds (choice c a b)) G) (fun-ext λ m. sym (turned m r ds c a b))
@@ -50,7 +50,7 @@ module _ (r : Program) (n : ℕ) (ds : List Bound) (c a b : Expr) where
       twice-sooner : (e : Expr) → Reach (eval n r ds e) (λ m. eval (suc (suc m)) r ds e)
       twice-sooner e = sooner (eval n r ds e) (λ m. eval (suc m) r ds e) (sooner (eval n r ds e) (λ m. eval m r ds e) (run-self n r ds e))
 
-  turned-reach : Reach (eval (suc (suc (suc n))) r ds (choice (bin 4 c (num 0)) b a)) (λ m. eval (suc m) r ds (choice c a b))
+  turned-reach : Reach (eval (suc (suc (suc n))) r ds (if-turned c a b)) (λ m. eval (suc m) r ds (choice c a b))
   unfolding eval step
   turned-reach =
       subst (λ o. Reach o (λ m. eval (suc m) r ds (choice c a b))) (sym (turned n r ds c a b))
@@ -59,14 +59,14 @@ module _ (r : Program) (n : ℕ) (ds : List Bound) (c a b : Expr) where
       (λ v. pick-reach (eqb v 0) (eval (suc (suc n)) r ds b) (eval (suc (suc n)) r ds a) (λ m. eval m r ds b) (λ m. eval m r ds a)
       (run-self (suc (suc n)) r ds b) (run-self (suc (suc n)) r ds a)))
 
-  turn-forth : Run n r ds (choice c a b) r ds (choice (bin 4 c (num 0)) b a)
+  turn-forth : Run n r ds (choice c a b) r ds (if-turned c a b)
   turn-forth =
-      run-down n (suc n) r ds (choice c a b) (λ m. eval m r ds (choice (bin 4 c (num 0)) b a)) (omega arith)
+      run-down n (suc n) r ds (choice c a b) (λ m. eval m r ds (if-turned c a b)) (omega arith)
       (later _ _ (later _ _ (later _ _ reach-turned)))
 
-  turn-back : Run n r ds (choice (bin 4 c (num 0)) b a) r ds (choice c a b)
+  turn-back : Run n r ds (if-turned c a b) r ds (choice c a b)
   turn-back =
-      run-down n (suc (suc (suc n))) r ds (choice (bin 4 c (num 0)) b a) (λ m. eval m r ds (choice c a b)) (omega arith) (later _ _ turned-reach)
+      run-down n (suc (suc (suc n))) r ds (if-turned c a b) (λ m. eval m r ds (choice c a b)) (omega arith) (later _ _ turned-reach)
 
 pub cond-mean : (w : Plain) (x : Name) (ks : List ℕ) → Kept w (turn w (turn-cond x ks))
 unfolding turn cond-turned
@@ -80,5 +80,5 @@ cond-mean w x ks = kept-at w x ks (λ f e. cond-turned w f ks e) go
     go f fs (call g as₁) es found stands = kept-refused w 6
     go f fs (bind y a b) es found stands = kept-refused w 6
     go f fs (choice c a b) es found stands =
-        kept-put w f fs ks (choice c a b) es (choice (bin 4 c (num 0)) b a) found stands (λ r ds g n. (turn-forth r n ds c a b, turn-back r n ds c a b))
+        kept-put w f fs ks (choice c a b) es (if-turned c a b) found stands (λ r ds g n. (turn-forth r n ds c a b, turn-back r n ds c a b))
     go f fs (tell a) es found stands = kept-refused w 6

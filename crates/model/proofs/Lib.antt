@@ -10,7 +10,6 @@ pub mod RenameFacts
 pub mod RenameMeaning
 pub mod FunctionNamesFacts
 pub mod FunctionNamesMeaning
-pub mod CoreMeaning
 pub mod Says
 pub mod CaptureFacts
 pub mod PlaceSays

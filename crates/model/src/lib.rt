@@ -1,6 +1,6 @@
 // The reference model: definitions in specs/, and what is true of it. Each function below has a theorem for its contract.
 
-ghost use Rattle.model.specs.Known.{everything};
+ghost use Rattle.model.specs.Known.{core, everything};
 ghost use Rattle.model.specs.Statements.{Quiet-quiet, Spelled-once, Refused-same, Back-again, Stays-fine, Stays-program};
 ghost use Rattle.model.specs.Whole.{Means};
 ghost use Rattle.model.specs.Worked.{Worked-table};
@@ -20,6 +20,12 @@ pub fn commands_are_spelled_once() -> u8
 
 pub fn meaning_is_kept() -> u8
     ensures { λ _. ⌜ Means everything ⌝ }
+{
+    0
+}
+
+pub fn core_keeps_meaning() -> u8
+    ensures { λ _. ⌜ Means core ⌝ }
 {
     0
 }
