@@ -62,15 +62,10 @@ def in_code(bug, log):
     return f"{bug['crate']} | {'; '.join(caught) or 'NO FACT NAMED'}", not caught
 
 
-def defined(bug):
-    """The name of the definition that the edit stands in."""
-    text = (ROOT / "crates" / bug["crate"] / bug["file"]).read_text()
-    return re.findall(r"\bpub (\S+) :", text[: text.index(bug["old"])])[-1]
-
-
-def in_definitions(bug, log):
+def in_definitions(bug, text, log):
     """The row of an edit of the definitions, and whether its lemma was not refused."""
-    place = f"`{defined(bug)}` in `{bug['file'].removeprefix('specs/')}`"
+    definition = re.findall(r"\bpub (\S+) :", text[: text.index(bug["old"])])[-1]
+    place = f"`{definition}` in `{bug['file'].removeprefix('specs/')}`"
     if re.search(r"^\S*/specs/\S+: error: ", log, re.M):
         return f"{place} | NO DEFINITION", True
     refused = {name: file for file, name in re.findall(r"^\S*/proofs/(\S+\.antt):\d+:\d+: error: `([^`]+)`: ", log, re.M)}
@@ -82,14 +77,15 @@ def in_definitions(bug, log):
     return f"{place} | `{lemma}` in `{refused[lemma]}`: {says} | {ticked(samples)} | {ticked(theorems)}", False
 
 
-def check(bug):
+def check(bug, text):
+    """The row of an edit that is planted in this text, and whether it was not caught."""
     run = subprocess.run(["rt", "dev", bug["crate"]], cwd=ROOT, capture_output=True, text=True)
     log = run.stdout + run.stderr
     if run.returncode == 0:
         return "STILL PROVED", True
     if "logic=not-proved" not in log:
         return "NOT CHECKED: " + (log.splitlines() or ["no output"])[-1], True
-    return log, False
+    return in_definitions(bug, text, log) if "lost" in bug else in_code(bug, log)
 
 
 def plant(path):
@@ -100,11 +96,9 @@ def plant(path):
         sys.exit(f"{path}: the old text stands {text.count(bug['old'])} times in {source}")
     try:
         source.write_text(text.replace(bug["old"], bug["new"]))
-        row, survived = check(bug)
+        row, survived = check(bug, text)
     finally:
         source.write_text(text)
-    if not survived:
-        row, survived = (in_definitions if "lost" in bug else in_code)(bug, row)
     print(f"| {bug['bug']} | {row} |", flush=True)
     return survived
 
