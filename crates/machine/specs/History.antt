@@ -1,9 +1,10 @@
 -- Programs in memory that come and go: loading, going back, and what a change leaves. Assumes nothing: these are definitions.
 use mathlib.Core.List.{List}
-use Prim.Native.Nat.{ℕ, _+_, _-_, min}
+use Prim.Native.Nat.{ℕ, _+_, _-_}
 use lib.ListN.{length, set, drop}
 use lib.Seq.{paste}
 use Rattle.language.specs.Packed.{packed}
+use Rattle.expr.specs.Look.{smaller}
 use Rattle.machine.specs.Layout.{older, put-words}
 
 -- the program in these bytes is the current one, and there is nothing to go back to
@@ -27,4 +28,4 @@ placed m n = paste (set m 2 (n - 8)) 16 (drop 73744 (set m 2 (n - 8))) 8192
 
 -- and the one before can be gone back to
 unfoldable pub committed : List ℕ → ℕ → List ℕ
-committed m n = placed (moved-up (set m 1 (min 8 (older m + 1)))) n
+committed m n = placed (moved-up (set m 1 (smaller 8 (older m + 1)))) n

@@ -2,7 +2,8 @@
 ghost use lib.ListN.{length};
 ghost use mathlib.Core.Bool.{true};
 ghost use mathlib.Core.Path.{_≡_};
-ghost use Prim.Native.Nat.{_+_, _≤_, min};
+ghost use Prim.Native.Nat.{_+_, _≤_};
+ghost use Rattle.expr.specs.Look.{smaller};
 ghost use Rattle.machine.specs.History.{moved-down, moved-up, placed, committed};
 ghost use Rattle.machine.specs.Layout.{memory-words, memory-fits};
 ghost use Rattle.machine.specs.Machine.{undo-step};
@@ -19,6 +20,7 @@ use crate::layout::SLOTS;
 use crate::told::Refusal;
 use crate::told::Told;
 use crate::told::refused;
+use expr::look::smaller_of;
 
 // Lengths and slots move down by one: each program is the one before it, and the last stays.
 fn move_down(memory: &mut [u64])
@@ -64,9 +66,9 @@ pub fn undo(memory: &mut [u64], out: &mut [u8]) -> Told
 // How many there are to go back to with one more: the ninth falls out.
 fn one_more(older: u64) -> u64
     requires { ⌜ older ≤ 8 ⌝ }
-    ensures { λ r. ⌜ r ≡ min 8 (older + 1) ⌝ }
+    ensures { λ r. ⌜ r ≡ smaller 8 (older + 1) ⌝ }
 {
-    MAX_OLDER.min(older + 1)
+    smaller_of(MAX_OLDER, older + 1)
 }
 
 // The first `len` bytes of the build area are the current program, and the one before can be gone back to.
