@@ -23,26 +23,31 @@ from expressions import MOST_FUNCTIONS, Function, Num  # noqa: E402
 from model import run_deep  # noqa: E402
 
 PLAYER = ROOT / "target" / "bin" / "replay"
-ROUNDS = 5
+ROUNDS = 3
 
 
-def played(lines):
-    """The seconds that a session takes, the best of some rounds."""
+def played(lines, ending):
+    """The seconds that a session takes, the best of some rounds; its last command has to end so."""
     with tempfile.NamedTemporaryFile("w", suffix=".txt") as session:
         session.writelines(f"{line}\n" for line in lines)
         session.flush()
-        return min(timed([PLAYER, session.name]) for _ in range(ROUNDS))
+        return min(timed(session.name, ending) for _ in range(ROUNDS))
 
 
-def timed(command):
-    start = time.perf_counter()
-    subprocess.run(command, check=True, stdout=subprocess.DEVNULL)
-    return time.perf_counter() - start
+def timed(session, ending):
+    with tempfile.TemporaryFile() as printed:
+        start = time.perf_counter()
+        subprocess.run([PLAYER, session], check=True, stdout=printed)
+        seconds = time.perf_counter() - start
+        printed.seek(-len(ending) - 1, 2)
+        last = printed.read().decode().strip()
+    assert last == ending, (last, ending)
+    return seconds
 
 
-def milliseconds(before, text, count):
+def milliseconds(before, text, ending, count):
     """Of one more command: what `count` more of them take, after what comes before and as many again."""
-    return (played([*before, *[text] * (2 * count)]) - played([*before, *[text] * count])) / count * 1000
+    return (played([*before, *[text] * (2 * count)], ending) - played([*before, *[text] * count], ending)) / count * 1000
 
 
 def main():
@@ -50,18 +55,18 @@ def main():
     deep = padded(())
     load_many, load_deep = (spelled(Load(program)).hex() for program in (many, deep))
     cases = [
-        ("load, 1,024 functions in 65,536 bytes", [], load_many, 200),
-        ("load, one function in 65,536 bytes", [], load_deep, 200),
-        ("the same bytes and one more: refused with 1", [], load_many + "00", 200),
-        ("show, of 65,536 bytes", [load_deep], spelled(Show(deep[0].name)).hex(), 400),
-        ("show, the last of 1,024", [load_many], spelled(Show(many[-1].name)).hex(), 2000),
-        ("show, of none: refused with 3", [load_many], spelled(Show(b"none")).hex(), 2000),
-        ("names, 1,024 of 32 bytes", [load_many], spelled(Names()).hex(), 400),
-        ("undo: refused with 9", [load_many], spelled(Undo()).hex(), 2000),
+        ("load, 1,024 functions in 65,536 bytes", [], load_many, "done", 500),
+        ("load, one function in 65,536 bytes", [], load_deep, "done", 500),
+        ("the first of these and one byte more", [], load_many + "00", "refused 1", 500),
+        ("show, of 65,536 bytes", [load_deep], spelled(Show(deep[0].name)).hex(), "done", 1000),
+        ("show, the last of 1,024", [load_many], spelled(Show(many[-2].name)).hex(), "done", 5000),
+        ("show, of none", [load_many], spelled(Show(b"none")).hex(), "refused 3", 5000),
+        ("names, 1,024 of 32 bytes", [load_many], spelled(Names()).hex(), "done", 1000),
+        ("undo", [load_many], spelled(Undo()).hex(), "refused 9", 100000),
     ]
-    print("| command | ms |\n|---|---|")
-    for name, before, text, count in cases:
-        print(f"| {name} | {milliseconds(before, text, count):.3f} |")
+    print("| command | ends | ms |\n|---|---|---|")
+    for name, before, text, ending, count in cases:
+        print(f"| {name} | {ending} | {milliseconds(before, text, ending, count):.4f} |")
 
 
 if __name__ == "__main__":
