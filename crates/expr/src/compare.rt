@@ -9,9 +9,9 @@ use crate::token::{Span, skip_name};
 
 // The bytes in one span are those in the other.
 pub fn same_spans<A: Source, B: Source>(a: &A, x: Span, b: &B, y: Span) -> bool
-    requires left { (x.from ≤ x.to) × (x.to ≤ length (A.Source.bytes a.now)) }
-    requires right { (y.from ≤ y.to) × (y.to ≤ length (B.Source.bytes b.now)) }
-    ensures { result ≡ same (spelled_in (A.Source.bytes a.now) x) (spelled_in (B.Source.bytes b.now) y) }
+    requires left { (x.from ≤ x.to) × (x.to ≤ length (A.bytes a.now)) }
+    requires right { (y.from ≤ y.to) × (y.to ≤ length (B.bytes b.now)) }
+    ensures { result ≡ same (spelled_in (A.bytes a.now) x) (spelled_in (B.bytes b.now) y) }
 {
     let count = x.to - x.from;
     if y.to - y.from != count {
@@ -27,8 +27,8 @@ pub fn same_spans<A: Source, B: Source>(a: &A, x: Span, b: &B, y: Span) -> bool
 
 // Where the bytes of the name there lie; an empty span where no name stands.
 fn name_span<S: Source>(src: &S, at: usize) -> Span
-    ensures value { spelled_in (bytes src.now) result ≡ name_there (bytes src.now) at }
-    ensures within { (result.from ≤ result.to) × (result.to ≤ length (bytes src.now)) }
+    ensures value { spelled_in (S.bytes src.now) result ≡ name_there (S.bytes src.now) at }
+    ensures within { (result.from ≤ result.to) × (result.to ≤ length (S.bytes src.now)) }
 {
     let Some(to) = skip_name(src, at) else {
         return Span { from: 0, to: 0 };
@@ -38,7 +38,7 @@ fn name_span<S: Source>(src: &S, at: usize) -> Span
 
 // The name there is `name`.
 pub fn is_name<S: Source>(src: &S, at: usize, name: &[u8]) -> bool
-    ensures { result ≡ same (name_there (bytes src.now) at) name.now }
+    ensures { result ≡ same (name_there (S.bytes src.now) at) name.now }
 {
     let span = name_span(src, at);
     same_spans(
@@ -54,7 +54,7 @@ pub fn is_name<S: Source>(src: &S, at: usize, name: &[u8]) -> bool
 
 // The names at the two places are the same.
 pub fn same_names<S: Source>(src: &S, at: usize, other: usize) -> bool
-    ensures { result ≡ same (name_there (bytes src.now) at) (name_there (bytes src.now) other) }
+    ensures { result ≡ same (name_there (S.bytes src.now) at) (name_there (S.bytes src.now) other) }
 {
     let span = name_span(src, at);
     let second = name_span(src, other);

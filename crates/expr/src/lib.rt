@@ -1,4 +1,6 @@
 // Expressions in lent memory: rows of bytes, names among names, what stands first in a spelling, and where it ends. No recursion over an expression.
+#![tactic(auto)]
+
 pub mod bytes;
 pub mod compare;
 pub mod look;

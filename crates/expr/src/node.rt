@@ -25,8 +25,8 @@ pub struct Node {
 
 // The node there, of which is known who holds it.
 pub fn read_node<S: Source>(src: &S, at: usize, holder: Option<Holder>) -> Option<Node>
-    ensures value { told (bytes src.now) (node_token result) ≡ head_at (bytes src.now) at }
-    ensures within { Within (at + 1) (token_end (node_token result)) (length (bytes src.now)) }
+    ensures value { told (S.bytes src.now) (node_token result) ≡ head_at (S.bytes src.now) at }
+    ensures within { Within (at + 1) (token_end (node_token result)) (length (S.bytes src.now)) }
     ensures lies { Lies (at + 1) (node_token result) }
     ensures held { HeldBy holder result }
 {

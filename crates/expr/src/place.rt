@@ -10,7 +10,7 @@ use crate::token::{Token, read_token};
 
 // Where the part of that number begins, of the expression whose head was read.
 fn part_of<S: Source>(src: &S, token: Token, part: usize) -> Option<usize>
-    ensures { result ≡ pick (nat_lt part (kind_arity token.kind)) (ends part (length (bytes src.now)) (bytes src.now) token.end) None }
+    ensures { result ≡ pick (nat_lt part (kind_arity token.kind)) (ends part (length (S.bytes src.now)) (S.bytes src.now) token.end) None }
 {
     if part >= arity(token.kind) {
         return None;
@@ -20,7 +20,7 @@ fn part_of<S: Source>(src: &S, token: Token, part: usize) -> Option<usize>
 
 // Where what stands at the place begins, in the expression at `at`. By recursion on the place, one part after the other.
 pub fn follow<S: Source>(src: &S, place: &[u8], at: usize) -> Option<usize>
-    ensures { result ≡ place_at (bytes src.now) place.now at }
+    ensures { result ≡ place_at (S.bytes src.now) place.now at }
 {
     let [part, rest @ ..] = place else {
         return Some(at);

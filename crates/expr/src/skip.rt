@@ -28,8 +28,8 @@ pub fn arity(kind: Kind) -> usize
 
 // Where the next `count` expressions end.
 pub fn skip_many<S: Source>(src: &S, count: usize, at: usize) -> Option<usize>
-    ensures value { result ≡ ends count (length (bytes src.now)) (bytes src.now) at }
-    ensures within { Skipped count at result (length (bytes src.now)) }
+    ensures value { result ≡ ends count (length (S.bytes src.now)) (S.bytes src.now) at }
+    ensures within { Skipped count at result (length (S.bytes src.now)) }
 {
     let len = src.len();
     let mut need = count;
@@ -55,16 +55,16 @@ pub fn skip_many<S: Source>(src: &S, count: usize, at: usize) -> Option<usize>
 
 // Where the expression ends that begins there.
 pub fn skip<S: Source>(src: &S, at: usize) -> Option<usize>
-    ensures value { result ≡ expr_end (bytes src.now) at }
-    ensures within { Within at result (length (bytes src.now)) }
+    ensures value { result ≡ expr_end (S.bytes src.now) at }
+    ensures within { Within at result (length (S.bytes src.now)) }
 {
     skip_many(src, 1, at)
 }
 
 // Where so many names end, one after the other.
 pub fn skip_names<S: Source>(src: &S, count: u64, at: usize) -> Option<usize>
-    ensures value { result ≡ times count (name_end (bytes src.now)) at }
-    ensures within { Onward at result (length (bytes src.now)) }
+    ensures value { result ≡ times count (name_end (S.bytes src.now)) at }
+    ensures within { Onward at result (length (S.bytes src.now)) }
 {
     let mut end = at;
     for done in 0..count {
@@ -78,8 +78,8 @@ pub fn skip_names<S: Source>(src: &S, count: u64, at: usize) -> Option<usize>
 
 // Where a function's own names end, whose count stands there.
 pub fn skip_params<S: Source>(src: &S, at: usize) -> Option<usize>
-    ensures value { result ≡ params_end (bytes src.now) at }
-    ensures within { Within at result (length (bytes src.now)) }
+    ensures value { result ≡ params_end (S.bytes src.now) at }
+    ensures within { Within at result (length (S.bytes src.now)) }
 {
     let Some(count) = number(src, at) else {
         return None;
@@ -92,8 +92,8 @@ pub fn skip_params<S: Source>(src: &S, at: usize) -> Option<usize>
 
 // Where the function ends that begins there.
 pub fn skip_function<S: Source>(src: &S, at: usize) -> Option<usize>
-    ensures value { result ≡ fun_end (bytes src.now) at }
-    ensures within { Within at result (length (bytes src.now)) }
+    ensures value { result ≡ fun_end (S.bytes src.now) at }
+    ensures within { Within at result (length (S.bytes src.now)) }
 {
     let Some(params) = skip_name(src, at) else {
         return None;
@@ -106,7 +106,7 @@ pub fn skip_function<S: Source>(src: &S, at: usize) -> Option<usize>
 
 // Where so many functions end, one after the other.
 fn skip_functions<S: Source>(src: &S, count: u64, at: usize) -> Option<usize>
-    ensures { result ≡ times count (fun_end (bytes src.now)) at }
+    ensures { result ≡ times count (fun_end (S.bytes src.now)) at }
 {
     let mut end = at;
     for done in 0..count {
@@ -120,7 +120,7 @@ fn skip_functions<S: Source>(src: &S, count: u64, at: usize) -> Option<usize>
 
 // The bytes are a program's spelling, whole.
 pub fn is_program<S: Source>(src: &S) -> bool
-    ensures { result ≡ is_program (bytes src.now) }
+    ensures { result ≡ is_program (S.bytes src.now) }
 {
     let len = src.len();
     if len > MAX_BYTES {

@@ -52,8 +52,8 @@ pub struct Token {
 
 // Eight bytes, the highest first.
 pub fn number<S: Source>(src: &S, at: usize) -> Option<u64>
-    ensures value { result ≡ number_at (bytes src.now) at }
-    ensures within { Room (at + 8) result (length (bytes src.now)) }
+    ensures value { result ≡ number_at (S.bytes src.now) at }
+    ensures within { Room (at + 8) result (length (S.bytes src.now)) }
 {
     let len = src.len();
     if len < 8 || at > len - 8 {
@@ -74,8 +74,8 @@ pub fn number<S: Source>(src: &S, at: usize) -> Option<u64>
 
 // Where the name ends whose length stands there; its bytes begin eight further on.
 pub fn skip_name<S: Source>(src: &S, at: usize) -> Option<usize>
-    ensures value { result ≡ name_end (bytes src.now) at }
-    ensures within { Within (at + 9) result (length (bytes src.now)) }
+    ensures value { result ≡ name_end (S.bytes src.now) at }
+    ensures within { Within (at + 9) result (length (S.bytes src.now)) }
 {
     let Some(count) = number(src, at) else {
         return None;
@@ -92,8 +92,8 @@ pub fn skip_name<S: Source>(src: &S, at: usize) -> Option<usize>
 }
 
 fn number_token<S: Source>(src: &S, at: usize) -> Option<Token>
-    ensures value { told (bytes src.now) result ≡ num_at (bytes src.now) at }
-    ensures within { Within at (token_end result) (length (bytes src.now)) }
+    ensures value { told (S.bytes src.now) result ≡ num_at (S.bytes src.now) at }
+    ensures within { Within at (token_end result) (length (S.bytes src.now)) }
     ensures lies { Lies at result }
 {
     let Some(n) = number(src, at) else {
@@ -123,8 +123,8 @@ fn read_operator(code: u8) -> Option<Operator>
 }
 
 fn binary_token<S: Source>(src: &S, at: usize) -> Option<Token>
-    ensures value { told (bytes src.now) result ≡ bin_at (bytes src.now) at }
-    ensures within { Within at (token_end result) (length (bytes src.now)) }
+    ensures value { told (S.bytes src.now) result ≡ bin_at (S.bytes src.now) at }
+    ensures within { Within at (token_end result) (length (S.bytes src.now)) }
     ensures lies { Lies at result }
 {
     if at >= src.len() {
@@ -140,8 +140,8 @@ fn binary_token<S: Source>(src: &S, at: usize) -> Option<Token>
 }
 
 fn call_token<S: Source>(src: &S, at: usize) -> Option<Token>
-    ensures value { told (bytes src.now) result ≡ call_at (bytes src.now) at }
-    ensures within { Within at (token_end result) (length (bytes src.now)) }
+    ensures value { told (S.bytes src.now) result ≡ call_at (S.bytes src.now) at }
+    ensures within { Within at (token_end result) (length (S.bytes src.now)) }
     ensures lies { Lies at result }
 {
     let Some(to) = skip_name(src, at) else {
@@ -161,8 +161,8 @@ fn call_token<S: Source>(src: &S, at: usize) -> Option<Token>
 }
 
 fn name_token<S: Source>(src: &S, at: usize) -> Option<Token>
-    ensures value { told (bytes src.now) result ≡ named_at h_var (bytes src.now) at }
-    ensures within { Within at (token_end result) (length (bytes src.now)) }
+    ensures value { told (S.bytes src.now) result ≡ named_at h_var (S.bytes src.now) at }
+    ensures within { Within at (token_end result) (length (S.bytes src.now)) }
     ensures lies { Lies at result }
 {
     let Some(to) = skip_name(src, at) else {
@@ -175,8 +175,8 @@ fn name_token<S: Source>(src: &S, at: usize) -> Option<Token>
 }
 
 fn let_token<S: Source>(src: &S, at: usize) -> Option<Token>
-    ensures value { told (bytes src.now) result ≡ named_at h_bind (bytes src.now) at }
-    ensures within { Within at (token_end result) (length (bytes src.now)) }
+    ensures value { told (S.bytes src.now) result ≡ named_at h_bind (S.bytes src.now) at }
+    ensures within { Within at (token_end result) (length (S.bytes src.now)) }
     ensures lies { Lies at result }
 {
     let Some(to) = skip_name(src, at) else {
@@ -190,8 +190,8 @@ fn let_token<S: Source>(src: &S, at: usize) -> Option<Token>
 
 // What stands first in the expression there.
 pub fn read_token<S: Source>(src: &S, at: usize) -> Option<Token>
-    ensures value { told (bytes src.now) result ≡ head_at (bytes src.now) at }
-    ensures within { Within (at + 1) (token_end result) (length (bytes src.now)) }
+    ensures value { told (S.bytes src.now) result ≡ head_at (S.bytes src.now) at }
+    ensures within { Within (at + 1) (token_end result) (length (S.bytes src.now)) }
     ensures lies { Lies (at + 1) result }
 {
     if at >= src.len() {

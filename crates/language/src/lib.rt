@@ -1,4 +1,5 @@
 // The language: definitions in specs/, and what is true of it. Each function below has a theorem for its contract.
+#![tactic(auto)]
 
 ghost use Rattle.language.specs.Statements.{DeeperSame, AlikeSame, FreeMatter, ThereAgain};
 

@@ -1,4 +1,6 @@
 // One step of the machine: it is told a command, or to go on, and does one act.
+#![tactic(auto)]
+
 mod answers;
 mod history;
 mod load;

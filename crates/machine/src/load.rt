@@ -56,8 +56,8 @@ fn pack(words: &mut [u64], text: &[u8])
 
 // The number that the name in the span comes to.
 fn hash_span<S: Source>(src: &S, span: Span) -> u64
-    requires { (span.from ≤ span.to) × (span.to ≤ length (bytes src.now)) }
-    ensures { result ≡ hash (spelled_in (bytes src.now) span) }
+    requires { (span.from ≤ span.to) × (span.to ≤ length (S.bytes src.now)) }
+    ensures { result ≡ hash (spelled_in (S.bytes src.now) span) }
 {
     let mut sum: u64 = 0;
     for k in 0..span.to - span.from {
@@ -71,7 +71,7 @@ fn hash_span<S: Source>(src: &S, span: Span) -> u64
 fn fill_table<S: Source>(src: &S, count: usize, table: &mut [u64]) -> usize
     requires { 2 * count ≤ length table.old }
     ensures within { result ≤ length table.old }
-    ensures value { take result table.new ≡ table_from count (bytes src.now) 8 }
+    ensures value { take result table.new ≡ table_from count (S.bytes src.now) 8 }
 {
     let mut here = 8;
     for done in 0..count {
@@ -91,7 +91,7 @@ fn fill_table<S: Source>(src: &S, count: usize, table: &mut [u64]) -> usize
 // No function after the one at `index` has its name.
 fn none_after<S: Source>(src: &S, table: &[u64], index: usize) -> bool
     requires { 2 * index + 1 < length table.now }
-    ensures { result ≡ none_after (bytes src.now) table.now index }
+    ensures { result ≡ none_after (S.bytes src.now) table.now index }
 {
     let sum = table[2 * index];
     let at = table[2 * index + 1] as usize;
@@ -105,7 +105,7 @@ fn none_after<S: Source>(src: &S, table: &[u64], index: usize) -> bool
 
 // No two functions of the table have one name.
 fn table_differs<S: Source>(src: &S, table: &[u64]) -> bool
-    ensures { result ≡ all_differ (bytes src.now) table.now }
+    ensures { result ≡ all_differ (S.bytes src.now) table.now }
 {
     for k in 0..table.len() / 2 {
         if !none_after(src, table, k) {
@@ -117,8 +117,8 @@ fn table_differs<S: Source>(src: &S, table: &[u64]) -> bool
 
 // No two functions have one name, and no function has two own names that are one. What the table holds then is no matter.
 fn is_fine<S: Source>(src: &S, table: &mut [u64]) -> bool
-    requires { (is_program (bytes src.now) ≡ true) × (2048 ≤ length table.old) }
-    ensures { result ≡ is_fine (bytes src.now) }
+    requires { (is_program (S.bytes src.now) ≡ true) × (2048 ≤ length table.old) }
+    ensures { result ≡ is_fine (S.bytes src.now) }
 {
     let Some(count) = number(src, 0) else {
         return true;

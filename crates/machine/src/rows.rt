@@ -9,9 +9,9 @@ use expr::token::Span;
 
 // The bytes in the span, at the beginning of the row; the others stay.
 pub fn copy_row<S: Source>(src: &S, span: Span, row: &mut [u8])
-    requires within { (span.from ≤ span.to) × (span.to ≤ length (bytes src.now)) }
+    requires within { (span.from ≤ span.to) × (span.to ≤ length (S.bytes src.now)) }
     requires room { span.to - span.from ≤ length row.old }
-    ensures { row.new ≡ spelled_in (bytes src.now) span ++ drop (span.to - span.from) row.old }
+    ensures { row.new ≡ spelled_in (S.bytes src.now) span ++ drop (span.to - span.from) row.old }
 {
     for k in 0..span.to - span.from {
         row[k] = src.at(span.from + k);

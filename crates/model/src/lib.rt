@@ -1,4 +1,5 @@
 // The reference model: definitions in specs/, and what is true of it. Each function below has a theorem for its contract.
+#![tactic(auto)]
 
 ghost use Rattle.model.specs.Known.{core, everything};
 ghost use Rattle.model.specs.Statements.{QuietQuiet, SpelledOnce, RefusedSame, BackAgain, StaysFine, StaysProgram};

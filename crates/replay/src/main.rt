@@ -1,5 +1,7 @@
 // Replays sessions, from standard input or from the files named as arguments: each line is a command in hex,
 // `-` one of no bytes; blank lines and lines that begin with # are skipped. Prints what the machine answers.
+#![tactic(auto)]
+
 mod fault;
 mod output;
 mod player;

@@ -21,8 +21,8 @@ pub struct Binder {
 
 // The let that begins there; none where something else does.
 pub fn let_at<S: Source>(src: &S, at: usize) -> Option<Binder>
-    ensures value { binder_told (bytes src.now) result ≡ let_at (bytes src.now) at }
-    ensures lies { BinderLies result (length (bytes src.now)) }
+    ensures value { binder_told (S.bytes src.now) result ≡ let_at (S.bytes src.now) at }
+    ensures lies { BinderLies result (length (S.bytes src.now)) }
 {
     let Some(token) = read_token(src, at) else {
         return None;
@@ -38,7 +38,7 @@ pub fn let_at<S: Source>(src: &S, at: usize) -> Option<Binder>
 
 // Where the body begins of the function there.
 pub fn body_of<S: Source>(src: &S, function: usize) -> Option<usize>
-    ensures { result ≡ body_of (bytes src.now) function }
+    ensures { result ≡ body_of (S.bytes src.now) function }
 {
     let Some(params) = skip_name(src, function) else {
         return None;
@@ -48,7 +48,7 @@ pub fn body_of<S: Source>(src: &S, function: usize) -> Option<usize>
 
 // Where the own name of that number stands.
 fn own_at<S: Source>(src: &S, function: usize, index: u8) -> Option<usize>
-    ensures { result ≡ own_at (bytes src.now) function index }
+    ensures { result ≡ own_at (S.bytes src.now) function index }
 {
     let Some(params) = skip_name(src, function) else {
         return None;
@@ -64,8 +64,8 @@ fn own_at<S: Source>(src: &S, function: usize, index: u8) -> Option<usize>
 
 // The own name of that number of the function there; none where there are not so many.
 pub fn own_name<S: Source>(src: &S, function: usize, index: u8) -> Option<Binder>
-    ensures value { binder_told (bytes src.now) result ≡ own_binder (bytes src.now) function index }
-    ensures lies { BinderLies result (length (bytes src.now)) }
+    ensures value { binder_told (S.bytes src.now) result ≡ own_binder (S.bytes src.now) function index }
+    ensures lies { BinderLies result (length (S.bytes src.now)) }
 {
     let Some(at) = own_at(src, function, index) else {
         return None;
@@ -84,7 +84,7 @@ pub fn own_name<S: Source>(src: &S, function: usize, index: u8) -> Option<Binder
 
 // Another own name of the function than that of the number is `name`.
 pub fn other_own_is<S: Source>(src: &S, function: usize, index: u8, name: &[u8]) -> bool
-    ensures { result ≡ has (others (own_names (bytes src.now) function) index) name.now }
+    ensures { result ≡ has (others (own_names (S.bytes src.now) function) index) name.now }
 {
     let Some(params) = skip_name(src, function) else {
         return false;

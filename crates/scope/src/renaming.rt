@@ -34,16 +34,16 @@ pub enum Use {
 }
 
 fn is_old<S: Source>(src: &S, renaming: Renaming<'_>, name: Span) -> bool
-    requires from { (renaming.from.from ≤ renaming.from.to) × (renaming.from.to ≤ length (bytes src.now)) }
-    requires name { (name.from ≤ name.to) × (name.to ≤ length (bytes src.now)) }
-    ensures { result ≡ same (spelled_in (bytes src.now) renaming.entry.from) (spelled_in (bytes src.now) name) }
+    requires from { (renaming.from.from ≤ renaming.from.to) × (renaming.from.to ≤ length (S.bytes src.now)) }
+    requires name { (name.from ≤ name.to) × (name.to ≤ length (S.bytes src.now)) }
+    ensures { result ≡ same (spelled_in (S.bytes src.now) renaming.entry.from) (spelled_in (S.bytes src.now) name) }
 {
     same_spans(src, renaming.from, src, name)
 }
 
 fn is_new<S: Source>(src: &S, renaming: Renaming<'_>, name: Span) -> bool
-    requires name { (name.from ≤ name.to) × (name.to ≤ length (bytes src.now)) }
-    ensures { result ≡ same renaming.entry.to.now (spelled_in (bytes src.now) name) }
+    requires name { (name.from ≤ name.to) × (name.to ≤ length (S.bytes src.now)) }
+    ensures { result ≡ same renaming.entry.to.now (spelled_in (S.bytes src.now) name) }
 {
     let new = Text { bytes: renaming.to };
     same_spans(
@@ -59,9 +59,9 @@ fn is_new<S: Source>(src: &S, renaming: Renaming<'_>, name: Span) -> bool
 
 // Within the let that gives the name in the span.
 fn let_scope<S: Source>(src: &S, renaming: Renaming<'_>, name: Span, around: Scope) -> Scope
-    requires from { (renaming.from.from ≤ renaming.from.to) × (renaming.from.to ≤ length (bytes src.now)) }
-    requires name { (name.from ≤ name.to) × (name.to ≤ length (bytes src.now)) }
-    ensures { scope_told result ≡ let_scope (spelled_in (bytes src.now) renaming.entry.from) renaming.entry.to.now (scope_told around) (spelled_in (bytes src.now) name) }
+    requires from { (renaming.from.from ≤ renaming.from.to) × (renaming.from.to ≤ length (S.bytes src.now)) }
+    requires name { (name.from ≤ name.to) × (name.to ≤ length (S.bytes src.now)) }
+    ensures { scope_told result ≡ let_scope (spelled_in (S.bytes src.now) renaming.entry.from) renaming.entry.to.now (scope_told around) (spelled_in (S.bytes src.now) name) }
 {
     Scope {
         old: is_old(src, renaming, name) || around.old,
@@ -76,8 +76,8 @@ pub fn scope_of<S: Source>(
     holder: Option<Holder>,
     around: Scope,
 ) -> Scope
-    requires from { (renaming.from.from ≤ renaming.from.to) × (renaming.from.to ≤ length (bytes src.now)) }
-    ensures { scope_told result ≡ scope_in (bytes src.now) (spelled_in (bytes src.now) renaming.entry.from) renaming.entry.to.now (holder_told holder) (scope_told around) }
+    requires from { (renaming.from.from ≤ renaming.from.to) × (renaming.from.to ≤ length (S.bytes src.now)) }
+    ensures { scope_told result ≡ scope_in (S.bytes src.now) (spelled_in (S.bytes src.now) renaming.entry.from) renaming.entry.to.now (holder_told holder) (scope_told around) }
 {
     let Some(held) = holder else {
         return around;
@@ -108,9 +108,9 @@ fn use_by(old: bool, new: bool, scope: Scope) -> Use
 
 // What becomes of a use of the name in the span.
 fn use_of<S: Source>(src: &S, renaming: Renaming<'_>, name: Span, scope: Scope) -> Use
-    requires from { (renaming.from.from ≤ renaming.from.to) × (renaming.from.to ≤ length (bytes src.now)) }
-    requires name { (name.from ≤ name.to) × (name.to ≤ length (bytes src.now)) }
-    ensures { use_told result ≡ use_changes (spelled_in (bytes src.now) renaming.entry.from) renaming.entry.to.now (scope_told scope) (spelled_in (bytes src.now) name) }
+    requires from { (renaming.from.from ≤ renaming.from.to) × (renaming.from.to ≤ length (S.bytes src.now)) }
+    requires name { (name.from ≤ name.to) × (name.to ≤ length (S.bytes src.now)) }
+    ensures { use_told result ≡ use_changes (spelled_in (S.bytes src.now) renaming.entry.from) renaming.entry.to.now (scope_told scope) (spelled_in (S.bytes src.now) name) }
 {
     let old = is_old(src, renaming, name);
     let new = is_new(src, renaming, name);
@@ -119,9 +119,9 @@ fn use_of<S: Source>(src: &S, renaming: Renaming<'_>, name: Span, scope: Scope) 
 
 // What becomes of a node: only a name is a use.
 pub fn node_use<S: Source>(src: &S, renaming: Renaming<'_>, kind: Kind, scope: Scope) -> Use
-    requires from { (renaming.from.from ≤ renaming.from.to) × (renaming.from.to ≤ length (bytes src.now)) }
-    requires name { KindLies kind (length (bytes src.now)) }
-    ensures { use_told result ≡ head_changes (spelled_in (bytes src.now) renaming.entry.from) renaming.entry.to.now (scope_told scope) (kind_told (bytes src.now) kind) }
+    requires from { (renaming.from.from ≤ renaming.from.to) × (renaming.from.to ≤ length (S.bytes src.now)) }
+    requires name { KindLies kind (length (S.bytes src.now)) }
+    ensures { use_told result ≡ head_changes (spelled_in (S.bytes src.now) renaming.entry.from) renaming.entry.to.now (scope_told scope) (kind_told (S.bytes src.now) kind) }
 {
     match kind {
         Kind::Name(name) => use_of(src, renaming, name, scope),

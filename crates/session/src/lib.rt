@@ -1,4 +1,6 @@
 // Sessions as text: bytes in hex, what a line of a session says, and what is printed of the answers.
+#![tactic(auto)]
+
 mod answers;
 mod hex;
 mod lines;

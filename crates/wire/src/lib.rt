@@ -1,4 +1,6 @@
 // Commands read from bytes.
+#![tactic(auto)]
+
 pub mod field;
 pub mod program;
 pub mod request;

@@ -10,7 +10,7 @@ use expr::token::{number, skip_name};
 
 // Where the function of that name begins, among `count` from `at` on.
 fn find_from<S: Source>(src: &S, count: u64, at: usize, name: &[u8]) -> Option<usize>
-    ensures { result ≡ find_from count (bytes src.now) name.now at }
+    ensures { result ≡ find_from count (S.bytes src.now) name.now at }
 {
     let mut here = at;
     for done in 0..count {
@@ -30,7 +30,7 @@ fn find_from<S: Source>(src: &S, count: u64, at: usize, name: &[u8]) -> Option<u
 
 // Where the function of that name begins.
 pub fn find_function<S: Source>(src: &S, name: &[u8]) -> Option<usize>
-    ensures { result ≡ find_function (bytes src.now) name.now }
+    ensures { result ≡ find_function (S.bytes src.now) name.now }
 {
     let Some(count) = number(src, 0) else {
         return None;
@@ -40,7 +40,7 @@ pub fn find_function<S: Source>(src: &S, name: &[u8]) -> Option<usize>
 
 // The name at `at` is among `count` names from `from` on.
 fn is_among<S: Source>(src: &S, at: usize, from: usize, count: u64) -> bool
-    ensures { result ≡ has (names_from count (bytes src.now) from) (name_there (bytes src.now) at) }
+    ensures { result ≡ has (names_from count (S.bytes src.now) from) (name_there (S.bytes src.now) at) }
 {
     let mut here = from;
     for done in 0..count {
@@ -57,7 +57,7 @@ fn is_among<S: Source>(src: &S, at: usize, from: usize, count: u64) -> bool
 
 // No two of `count` names from `from` on are the same.
 fn names_differ<S: Source>(src: &S, from: usize, count: u64) -> bool
-    ensures { result ≡ distinct (names_from count (bytes src.now) from) }
+    ensures { result ≡ distinct (names_from count (S.bytes src.now) from) }
 {
     let mut here = from;
     for done in 0..count {
@@ -74,7 +74,7 @@ fn names_differ<S: Source>(src: &S, from: usize, count: u64) -> bool
 
 // No two own names of the function there are the same.
 fn own_names_differ<S: Source>(src: &S, at: usize) -> bool
-    ensures { result ≡ distinct (own_names (bytes src.now) at) }
+    ensures { result ≡ distinct (own_names (S.bytes src.now) at) }
 {
     let Some(params) = skip_name(src, at) else {
         return true;
@@ -87,7 +87,7 @@ fn own_names_differ<S: Source>(src: &S, at: usize) -> bool
 
 // In none of `count` functions are two own names the same.
 pub fn owns_differ<S: Source>(src: &S, count: u64) -> bool
-    ensures { result ≡ owns_differ count (bytes src.now) 8 }
+    ensures { result ≡ owns_differ count (S.bytes src.now) 8 }
 {
     let mut here = 8;
     for done in 0..count {

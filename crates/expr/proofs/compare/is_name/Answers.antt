@@ -4,4 +4,4 @@ use Rattle.language.specs.Basics.{same}
 use Rattle.expr.proofs.compare.is_name.Goals as goal
 
 pub returns : goal.returns
-returns g c = c.same-spans.ensures ∙ ap₂ same c.name-span-span.ensures.value (take_all _ c.args.name.now (omega arith))
+returns g c = c.same_spans.ensures ∙ ap₂ same c.name_span-span.ensures.value (take_all _ c.args.name.now (omega arith))

@@ -13,19 +13,19 @@ use Rattle.expr.proofs.place.+follow.Goals as goal
 part-told : (bs : List ℕ) (k : Kind) (n m e : ℕ) → m ≡ n → pick (ltb n (arity (kind_told bs k))) (ends n (length bs) bs e) None ≡ pick (ltb m (kind_arity k)) (ends m (length bs) bs e) None
 part-told bs k n m e p = ap₂ (λ a j. pick (ltb j a) (ends j (length bs) bs e) None) (arity-told bs k) (sym p)
 
-pub returns-in-default : goal.returns-in-default
-returns-in-default g t c = sym (place_here (g.S.Source.bytes c.args.src.now) c.args.place.now c.args.at (omega (arith, ltb-true, ltb-false)))
+pub returns-in_default : goal.returns-in_default
+returns-in_default g t c = sym (place_here (g.S.Source.bytes c.args.src.now) c.args.place.now c.args.at (omega (arith, ltb-true, ltb-false)))
 
-pub returns-in-default-read-token : goal.returns-in-default-read-token
-returns-in-default-read-token g t c = sym (place_none (g.S.Source.bytes c.args.src.now) c.args.place.now c.args.at (omega (arith, ltb-true, ltb-false)) (sym c.in-default-read-token.ensures.value))
+pub returns-in_default-read_token : goal.returns-in_default-read_token
+returns-in_default-read_token g t c = sym (place_none (g.S.Source.bytes c.args.src.now) c.args.place.now c.args.at (omega (arith, ltb-true, ltb-false)) (sym c.in_default-read_token.ensures.value))
 
-pub returns-in-default-part-of : goal.returns-in-default-part-of
-returns-in-default-part-of g t c =
+pub returns-in_default-part_of : goal.returns-in_default-part_of
+returns-in_default-part_of g t c =
     sym (place-cut (g.S.Source.bytes c.args.src.now) c.args.place.now c.args.at (omega (arith, ltb-true, ltb-false)) _ (sym c.in-Some.ensures.value)
-    (part-told (g.S.Source.bytes c.args.src.now) c.in-Some.token.kind _ _ _ c.from.ensures ∙ sym c.in-default-part-of.ensures))
+    (part-told (g.S.Source.bytes c.args.src.now) c.in-Some.token.kind _ _ _ c.from.ensures ∙ sym c.in_default-part_of.ensures))
 
 pub returns : goal.returns
 returns g t c =
     c.follow.ensures
     ∙ sym (place_more (g.S.Source.bytes c.args.src.now) c.args.place.now c.args.at (omega (arith, ltb-true, ltb-false)) _ _ (sym c.in-Some.ensures.value)
-    (part-told (g.S.Source.bytes c.args.src.now) c.in-Some.token.kind _ _ _ c.from.ensures ∙ sym c.in-Some-part-of.ensures))
+    (part-told (g.S.Source.bytes c.args.src.now) c.in-Some.token.kind _ _ _ c.from.ensures ∙ sym c.in-Some-part_of.ensures))

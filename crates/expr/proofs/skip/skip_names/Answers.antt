@@ -9,9 +9,9 @@ loop-done-preserved g c = (
   λ h. c.in-Some.ensures.within.1,
 )
 
-pub returns-in-default : goal.returns-in-default
-returns-in-default g c =
-    record { value = sym (c.loop-done.invariant.0 ∙ times_none _ _ _ (omega arith) (sym c.in-default.ensures.value)); within = tt }
+pub returns-in_default : goal.returns-in_default
+returns-in_default g c =
+    record { value = sym (c.loop-done.invariant.0 ∙ times_none _ _ _ (omega arith) (sym c.in_default.ensures.value)); within = tt }
 
 pub returns : goal.returns
 returns g c =

@@ -11,16 +11,16 @@ pub loop-byte-init : goal.loop-byte-init
 unfolding hex_of
 loop-byte-init c = sym (append-nil (vec_items c.args.out.now))
 
-pub returns-in-err-write-byte : goal.returns-in-err-write-byte
-returns-in-err-write-byte c =
-    let p = err_from_is_err_and c.from-residual.result c.from-residual.ensures.1 in
+pub returns-in_err-write_byte : goal.returns-in_err-write_byte
+returns-in_err-write_byte c =
+    let p = err_from_is_err_and c.from_residual.result c.from_residual.ensures.1 in
     record {
-      written = rw p.1 (write_stops _ _ _ _ c.loop-byte.byte-index (omega arith) c.loop-byte.invariant c.in-err-write-byte.ensures);
+      written = rw p.1 (write_stops _ _ _ _ c.loop-byte.byte-index (omega arith) c.loop-byte.invariant c.in_err-write_byte.ensures);
       read_back = read_back;
     }
 
 pub loop-byte-preserved : goal.loop-byte-preserved
-loop-byte-preserved c = write_more _ _ _ _ c.loop-byte.byte-index _ (omega arith) refl c.loop-byte.invariant c.in-ok-write-byte.ensures
+loop-byte-preserved c = write_more _ _ _ _ c.loop-byte.byte-index _ (omega arith) refl c.loop-byte.invariant c.in_ok-write_byte.ensures
 
 pub returns : goal.returns
 returns c = record {

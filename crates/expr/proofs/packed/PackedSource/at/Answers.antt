@@ -9,5 +9,5 @@ returns-then-i-self c = sym (front_past _ _ _ c.if-i-self.true)
 
 pub returns : goal.returns
 returns c =
-    c.byte-of.ensures ∙ ap (λ w. get_or (eight w) (c.args.i % 8) 0) c.word-at.ensures
+    c.byte_of.ensures ∙ ap (λ w. get_or (eight w) (c.args.i % 8) 0) c.word_at.ensures
     ∙ sym (front_at c.args.self.now.words.now c.args.self.now.len c.args.i c.if-i-self.false)
