@@ -7,4 +7,4 @@ use Rattle.expr.proofs.look.look.Given as goal
 abbrev pub invariant-loop-before : goal.invariant-loop-before
 invariant-loop-before l =
     how_near (cut l.count l.width l.names) l.name 0
-    ≡ how_near (cut (l.count _ l.before) l.width (drop (l.before * l.width) l.names)) l.name l.before
+    ≡ how_near (cut (l.count - l.before) l.width (drop (l.before * l.width) l.names)) l.name l.before

@@ -4,4 +4,4 @@ use Rattle.expr.proofs.skip.skip_functions.Given as goal
 
 abbrev pub invariant-loop-done : goal.invariant-loop-done
 invariant-loop-done g l =
-    times l.count (fun_end (g.S.Source.bytes l.src)) l.at ≡ times (l.count _ l.done) (fun_end (g.S.Source.bytes l.src)) l.end
+    times l.count (fun_end (g.S.Source.bytes l.src)) l.at ≡ times (l.count - l.done) (fun_end (g.S.Source.bytes l.src)) l.end

@@ -12,7 +12,7 @@ returns-then-need-eq0 g c =
 pub returns-in_default : goal.returns-in_default
 returns-in_default g c =
     record {
-      value = sym (c.loop-turn.invariant.0 ∙ ends_none _ _ _ (c.loop-turn.need _ 1) _ (c.len-len.result _ c.loop-turn.turn _ 1) (omega arith) (omega arith) (sym c.in_default.ensures.value));
+      value = sym (c.loop-turn.invariant.0 ∙ ends_none _ _ _ (c.loop-turn.need - 1) _ (c.len-len.result - c.loop-turn.turn - 1) (omega arith) (omega arith) (sym c.in_default.ensures.value));
       within = tt;
     }
 
@@ -21,14 +21,14 @@ returns-then-left-parts g c =
     let parts = arity-told (g.S.Source.bytes c.args.src.now) c.in-Some.token.kind in
     record {
       value =
-          sym (c.loop-turn.invariant.0 ∙ ends_out _ _ _ (c.loop-turn.need _ 1) _ (c.len-len.result _ c.loop-turn.turn _ 1) (omega arith) (omega arith) _ (sym c.in-Some.ensures.value)
+          sym (c.loop-turn.invariant.0 ∙ ends_out _ _ _ (c.loop-turn.need - 1) _ (c.len-len.result - c.loop-turn.turn - 1) (omega arith) (omega arith) _ (sym c.in-Some.ensures.value)
           (elim c.then-left-parts.branch [ then-left-parts-via-then-left-parts w ↦ omega arith | then-left-parts-via-else-left-parts+then-left-parts-2 w ↦ omega arith ]));
       within = tt;
     }
 
 pub loop-turn-preserved : goal.loop-turn-preserved
 loop-turn-preserved g c = (
-  c.loop-turn.invariant.0 ∙ ends_more _ _ _ (c.loop-turn.need _ 1) _ _ (omega arith) (omega arith) _ _ (sym c.in-Some.ensures.value)
+  c.loop-turn.invariant.0 ∙ ends_more _ _ _ (c.loop-turn.need - 1) _ _ (omega arith) (omega arith) _ _ (sym c.in-Some.ensures.value)
       (omega (arith, arity-told (g.S.Source.bytes c.args.src.now) c.in-Some.token.kind)) (omega arith),
   omega (arith, c.in-Some.ensures.within),
   λ z n. omega (arith, c.in-Some.ensures.within),

@@ -4,5 +4,5 @@ use Rattle.expr.proofs.skip.skip_names.Given as goal
 
 abbrev pub invariant-loop-done : goal.invariant-loop-done
 invariant-loop-done g l =
-    (times l.count (name_end (g.S.Source.bytes l.src)) l.at ≡ times (l.count _ l.done) (name_end (g.S.Source.bytes l.src)) l.end)
+    (times l.count (name_end (g.S.Source.bytes l.src)) l.at ≡ times (l.count - l.done) (name_end (g.S.Source.bytes l.src)) l.end)
     × (l.at ≤ l.end) × (l.at ≤ length (g.S.Source.bytes l.src) → l.end ≤ length (g.S.Source.bytes l.src))
