@@ -5,5 +5,5 @@ use Rattle.memory.proofs.build.append_number.Goals as goal
 
 pub returns : goal.returns
 returns c =
-    subst (λ vs. Appended c.args.memory.now c.args.build vs c.append-bytes.result c.append-bytes.new.memory)
-    (c.to-be-bytes-bytes.ensures ∙ sym (eight_is c.args.number)) c.append-bytes.ensures
+    subst (λ vs. Appended c.args.memory.now c.args.build vs c.append_bytes.result c.append_bytes.new.memory)
+    (c.to_be_bytes-bytes.ensures ∙ sym (eight_is c.args.number)) c.append_bytes.ensures

@@ -6,9 +6,9 @@ use Rattle.memory.proofs.LayoutFacts.{memory-long, front-held, front_fits}
 use Rattle.memory.proofs.BuildFacts.{going_from, going_more, going_all}
 use Rattle.memory.proofs.build.append_span.Goals as goal
 
-pub returns-then-not-has-room : goal.returns-then-not-has-room
-returns-then-not-has-room c =
-    (refl, omega (arith, leb-false _ _ (sym c.if-not-has-room.ensures), length-between (held 0 c.args.memory.now) c.args.span.from c.args.span.to c.requires.span.1))
+pub returns-then-not-has_room : goal.returns-then-not-has_room
+returns-then-not-has_room c =
+    (refl, omega (arith, leb-false _ _ (sym c.if-not-has_room.ensures), length-between (held 0 c.args.memory.now) c.args.span.from c.args.span.to c.requires.span.1))
 
 pub loop-k-init : goal.loop-k-init
 loop-k-init c = going_from _ _ (omega arith)
@@ -18,7 +18,7 @@ current-requires c = front_fits c.args.memory.now c.loop-k.memory c.loop-k.invar
 
 pub push-end-requires : goal.push-end-requires
 push-end-requires c =
-    (omega (arith, memory-long c.args.memory.now c.requires.memory), omega (arith, leb-true _ _ (sym c.if-not-has-room.ensures), c.loop-k.invariant.so_far.count))
+    (omega (arith, memory-long c.args.memory.now c.requires.memory), omega (arith, leb-true _ _ (sym c.if-not-has_room.ensures), c.loop-k.invariant.so_far.count))
 
 pub loop-k-preserved : goal.loop-k-preserved
 loop-k-preserved c =
@@ -31,4 +31,4 @@ loop-k-preserved c =
 pub returns : goal.returns
 returns c =
     let long = length-between (held 0 c.args.memory.now) c.args.span.from c.args.span.to c.requires.span.1 in
-    (going_all _ _ _ _ c.loop-k.invariant (omega (arith, long)), omega (arith, leb-true _ _ (sym c.if-not-has-room.ensures), long))
+    (going_all _ _ _ _ c.loop-k.invariant (omega (arith, long)), omega (arith, leb-true _ _ (sym c.if-not-has_room.ensures), long))

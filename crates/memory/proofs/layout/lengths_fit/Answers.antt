@@ -6,11 +6,11 @@ use Rattle.memory.proofs.layout.lengths_fit.Goals as goal
 
 pub loop-length-preserved : goal.loop-length-preserved
 loop-length-preserved c =
-    c.loop-length.invariant ∙ every_more (λ n. leb n 65528) _ _ 0 c.loop-length-test.true (le-leb _ _ c.if-length-gt-MAX-LENGTH.false)
+    c.loop-length.invariant ∙ every_more (λ n. leb n 65528) _ _ 0 c.loop-length-test.true (le-leb _ _ c.if-length-gt-MAX_LENGTH.false)
 
-pub returns-then-length-gt-MAX-LENGTH : goal.returns-then-length-gt-MAX-LENGTH
-returns-then-length-gt-MAX-LENGTH c =
-    sym (c.loop-length.invariant ∙ every_not (λ n. leb n 65528) _ _ 0 c.loop-length-test.true (lt-leb _ _ c.if-length-gt-MAX-LENGTH.true))
+pub returns-then-length-gt-MAX_LENGTH : goal.returns-then-length-gt-MAX_LENGTH
+returns-then-length-gt-MAX_LENGTH c =
+    sym (c.loop-length.invariant ∙ every_not (λ n. leb n 65528) _ _ 0 c.loop-length-test.true (lt-leb _ _ c.if-length-gt-MAX_LENGTH.true))
 
 pub returns : goal.returns
 returns c = sym (c.loop-length.invariant ∙ every-end (λ n. leb n 65528) _ _ c.loop-length-test.false)

@@ -5,11 +5,11 @@ use Rattle.wire.proofs.field.are_parts.Goals as goal
 
 pub loop-part-preserved : goal.loop-part-preserved
 loop-part-preserved c =
-    c.loop-part.invariant ∙ every_more (λ k. ltb k 16) _ _ 0 c.loop-part-test.true (lt-ltb _ _ c.if-part-ge-PART-LIMIT.false)
+    c.loop-part.invariant ∙ every_more (λ k. ltb k 16) _ _ 0 c.loop-part-test.true (lt-ltb _ _ c.if-part-ge-PART_LIMIT.false)
 
-pub returns-then-part-ge-PART-LIMIT : goal.returns-then-part-ge-PART-LIMIT
-returns-then-part-ge-PART-LIMIT c =
-    sym (c.loop-part.invariant ∙ every_not (λ k. ltb k 16) _ _ 0 c.loop-part-test.true (le-ltb _ _ c.if-part-ge-PART-LIMIT.true))
+pub returns-then-part-ge-PART_LIMIT : goal.returns-then-part-ge-PART_LIMIT
+returns-then-part-ge-PART_LIMIT c =
+    sym (c.loop-part.invariant ∙ every_not (λ k. ltb k 16) _ _ 0 c.loop-part-test.true (le-ltb _ _ c.if-part-ge-PART_LIMIT.true))
 
 pub returns : goal.returns
 returns c = sym (c.loop-part.invariant ∙ every-end (λ k. ltb k 16) _ _ c.loop-part-test.false)
