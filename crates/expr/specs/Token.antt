@@ -74,6 +74,20 @@ abbrev pub Lies : ℕ → Option code.Token → Type 0
 Lies i None = Unit {0}
 Lies i (Some t) = NameLies i t.kind t.end
 
+-- the name of a head of this kind is not empty
+abbrev pub HasName : Kind → Type 0
+HasName (Number n) = Unit {0}
+HasName (Name s) = s.from < s.to
+HasName (Binary o) = Unit {0}
+HasName (Call s k) = s.from < s.to
+HasName (Let s) = s.from < s.to
+HasName If = Unit {0}
+HasName Tell = Unit {0}
+
+abbrev pub IsNamed : Option code.Token → Type 0
+IsNamed None = Unit {0}
+IsNamed (Some t) = HasName t.kind
+
 abbrev pub token_end : Option code.Token → Option ℕ
 token_end None = None
 token_end (Some t) = Some t.end

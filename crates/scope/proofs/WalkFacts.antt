@@ -3,7 +3,7 @@ use Rattle.std.proofs.Common.{◌≡◌, ℕ, zero, suc, ◌+◌, ◌-◌, ◌*�
 use Rattle.std.proofs.lemmas.List.{length-take-le, length-drop, drop-set-add, take_more_set}
 use Rattle.expr.specs.declared.token.Kind.{Kind}
 use Rattle.expr.specs.declared.token.Kind.TheVariants.{Number, Name, Binary, Call, Let, If, Tell}
-use Rattle.expr.specs.Token.{NameLies}
+use Rattle.expr.specs.Token.{NameLies, HasName}
 use Rattle.expr.specs.Node.{holder_told}
 use Rattle.language.specs.Basics.{pick}
 use Rattle.language.specs.Bytes as bytes
@@ -17,14 +17,14 @@ use Rattle.scope.specs.Walks.{walk_told, Sight, sight, sight_of, Framed, frame_o
 use Rattle.scope.specs.declared.uses.Walk as code
 use Rattle.scope.proofs.FrameFacts.{put_long, put_front, put_behind, stacked_more, stacked_count}
 
-pub kind_lies : (i : ℕ) (k : Kind) (end high : ℕ) → NameLies i k end → end ≤ high → KindLies k high
-kind_lies i (Number n) end high l h = tt
-kind_lies i (Name s) end high l h = (omega (arith, l.1), omega (arith, l.2))
-kind_lies i (Binary o) end high l h = tt
-kind_lies i (Call s v) end high l h = tt
-kind_lies i (Let s) end high l h = tt
-kind_lies i If end high l h = tt
-kind_lies i Tell end high l h = tt
+pub kind_lies : (i : ℕ) (k : Kind) (end high : ℕ) → NameLies i k end → HasName k → end ≤ high → KindLies k high
+kind_lies i (Number n) end high l some h = tt
+kind_lies i (Name s) end high l some h = (omega arith, omega (arith, l.1))
+kind_lies i (Binary o) end high l some h = tt
+kind_lies i (Call s v) end high l some h = tt
+kind_lies i (Let s) end high l some h = tt
+kind_lies i If end high l some h = tt
+kind_lies i Tell end high l some h = tt
 
 pub listed_count : (m : List ℕ) (n : ℕ) → length m ≡ memory_words → n ≤ 8192 → length (listed m n) ≡ n
 listed_count m n long few = length-take-le n (drop list_at m) (omega (arith, length-drop list_at m))

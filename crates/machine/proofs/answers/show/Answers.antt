@@ -4,20 +4,20 @@ use Rattle.machine.proofs.AnswerFacts.{told_as, show_none, show-cut, show-row}
 use Rattle.memory.proofs.LayoutFacts.{held_short}
 use Rattle.machine.proofs.answers.show.Goals as goal
 
-pub returns-in-default : goal.returns-in-default
-returns-in-default c = show_none _ _ _ _ c.current-program.ensures _ c.in-default.ensures c.refused.ensures
+pub returns-in_default : goal.returns-in_default
+returns-in_default c = show_none _ _ _ _ c.current-program.ensures _ c.in_default.ensures c.refused.ensures
 
-pub returns-in-default-skip-function : goal.returns-in-default-skip-function
-returns-in-default-skip-function c =
-    show-cut _ _ _ _ c.current-program.ensures _ _ c.in-Some.ensures c.in-default-skip-function.ensures.value c.refused-in-default-skip-function.ensures
+pub returns-in_default-skip_function : goal.returns-in_default-skip_function
+returns-in_default-skip_function c =
+    show-cut _ _ _ _ c.current-program.ensures _ _ c.in-Some.ensures c.in_default-skip_function.ensures.value c.refused-in_default-skip_function.ensures
 
-pub copy-row-requires : goal.copy-row-requires
-copy-row-requires c =
+pub copy_row-requires : goal.copy_row-requires
+copy_row-requires c =
     record {
-      within = (c.in-Some-skip-function.ensures.within.0, c.in-Some-skip-function.ensures.within.1);
-      room = omega (arith, c.in-Some-skip-function.ensures.within, held_short c.args.memory.now c.requires.0 _ c.current-program.ensures, c.requires.1);
+      within = (c.in-Some-skip_function.ensures.within.0, c.in-Some-skip_function.ensures.within.1);
+      room = omega (arith, c.in-Some-skip_function.ensures.within, held_short c.args.memory.now c.requires.0 _ c.current-program.ensures, c.requires.1);
     }
 
 pub returns : goal.returns
 returns c =
-    told_as _ _ _ _ _ _ c.shown.ensures (show-row _ _ _ _ c.current-program.ensures _ _ _ c.in-Some.ensures c.in-Some-skip-function.ensures.value c.in-Some-skip-function.ensures.within.1 c.copy-row.ensures)
+    told_as _ _ _ _ _ _ c.shown.ensures (show-row _ _ _ _ c.current-program.ensures _ _ _ c.in-Some.ensures c.in-Some-skip_function.ensures.value c.in-Some-skip_function.ensures.within.1 c.copy_row.ensures)

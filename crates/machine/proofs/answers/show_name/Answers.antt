@@ -8,23 +8,23 @@ use Rattle.machine.proofs.answers.show_name.Goals as goal
 pub returns-then-at-len : goal.returns-then-at-len
 returns-then-at-len c = names-end _ _ _ _ c.current-program.ensures (omega arith)
 
-pub returns-in-default : goal.returns-in-default
-returns-in-default c = names-cut _ _ _ _ c.current-program.ensures _ (omega arith) c.in-default.ensures.value c.refused.ensures
+pub returns-in_default : goal.returns-in_default
+returns-in_default c = names-cut _ _ _ _ c.current-program.ensures _ (omega arith) c.in_default.ensures.value c.refused.ensures
 
-pub returns-in-default-skip-function : goal.returns-in-default-skip-function
-returns-in-default-skip-function c =
-    names_lost _ _ _ _ c.current-program.ensures _ _ (omega arith) c.in-Some.ensures.value c.in-default-skip-function.ensures.value c.refused-in-default-skip-function.ensures
+pub returns-in_default-skip_function : goal.returns-in_default-skip_function
+returns-in_default-skip_function c =
+    names_lost _ _ _ _ c.current-program.ensures _ _ (omega arith) c.in-Some.ensures.value c.in_default-skip_function.ensures.value c.refused-in_default-skip_function.ensures
 
-pub copy-row-requires : goal.copy-row-requires
-copy-row-requires c =
+pub copy_row-requires : goal.copy_row-requires
+copy_row-requires c =
     record {
       within = (omega (arith, c.in-Some.ensures.within), c.in-Some.ensures.within.1);
       room = omega (arith, c.in-Some.ensures.within, held_short c.args.memory.now c.requires.0 _ c.current-program.ensures, c.requires.1);
     }
 
-pub overflow-add-memory : goal.overflow-add-memory
-overflow-add-memory c = omega (arith, c.in-Some-skip-function.ensures.within, held_short c.args.memory.now c.requires.0 _ c.current-program.ensures)
+pub overflow_add-memory : goal.overflow_add-memory
+overflow_add-memory c = omega (arith, c.in-Some-skip_function.ensures.within, held_short c.args.memory.now c.requires.0 _ c.current-program.ensures)
 
 pub returns : goal.returns
 returns c =
-    told_as _ _ _ _ _ _ c.shown.ensures (names-row _ _ _ _ c.current-program.ensures _ _ _ (omega arith) c.in-Some.ensures.value c.in-Some-skip-function.ensures.value c.in-Some.ensures.within.1 c.copy-row.ensures)
+    told_as _ _ _ _ _ _ c.shown.ensures (names-row _ _ _ _ c.current-program.ensures _ _ _ (omega arith) c.in-Some.ensures.value c.in-Some-skip_function.ensures.value c.in-Some.ensures.within.1 c.copy_row.ensures)

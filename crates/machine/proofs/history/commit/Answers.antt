@@ -3,10 +3,10 @@ use Rattle.machine.specs.History.{moved_up, placed, committed}
 use Rattle.memory.proofs.LayoutFacts.{older-few}
 use Rattle.machine.proofs.history.commit.Goals as goal
 
-pub one-more-requires : goal.one-more-requires
-one-more-requires c = older-few c.args.memory.now c.requires.0
+pub one_more-requires : goal.one_more-requires
+one_more-requires c = older-few c.args.memory.now c.requires.0
 
 pub returns : goal.returns
 unfolding committed
 returns c =
-    c.place.ensures ∙ ap (λ n. placed n c.args.len) (c.move-up.ensures ∙ ap (λ k. moved_up (set c.args.memory.now 1 k)) c.one-more.ensures)
+    c.place.ensures ∙ ap (λ n. placed n c.args.len) (c.move_up.ensures ∙ ap (λ k. moved_up (set c.args.memory.now 1 k)) c.one_more.ensures)

@@ -5,4 +5,4 @@ use Rattle.machine.proofs.history.move_up.Goals as goal
 
 pub returns : goal.returns
 unfolding moved_up
-returns c = c.copy-within-2.ensures.after ∙ ap (λ n. paste n 8208 (drop 16 n) 65536) c.copy-within.ensures.after
+returns c = c.copy_within-2.ensures.after ∙ ap (λ n. paste n 8208 (drop 16 n) 65536) c.copy_within.ensures.after

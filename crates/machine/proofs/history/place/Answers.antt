@@ -3,4 +3,4 @@ use Rattle.machine.proofs.history.place.Goals as goal
 
 pub returns : goal.returns
 unfolding placed
-returns c = c.copy-within.ensures.after
+returns c = c.copy_within.ensures.after

@@ -8,4 +8,4 @@ returns-then-older-eq0 c = undo_none _ _ _ c.if-older-eq0.true c.refused.ensures
 
 pub returns : goal.returns
 unfolding gone_back
-returns c = undo-done _ _ _ c.if-older-eq0.false c.move-down.ensures
+returns c = undo-done _ _ _ c.if-older-eq0.false c.move_down.ensures

@@ -5,8 +5,8 @@ use Rattle.machine.specs.History.{loaded}
 use Rattle.machine.proofs.LoadFacts.{bytes_short, bytes_counted, put_in-part}
 use Rattle.machine.proofs.load.store.Goals as goal
 
-pub overflow-sub-memory : goal.overflow-sub-memory
-overflow-sub-memory c = bytes_counted c.args.program.now c.requires.1
+pub overflow_sub-memory : goal.overflow_sub-memory
+overflow_sub-memory c = bytes_counted c.args.program.now c.requires.1
 
 pub returns : goal.returns
 unfolding loaded

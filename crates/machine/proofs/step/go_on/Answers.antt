@@ -5,4 +5,4 @@ pub returns-then-mark-eq0 : goal.returns-then-mark-eq0
 returns-then-mark-eq0 c = on_none _ _ _ c.if-mark-eq0.true c.refused.ensures
 
 pub returns : goal.returns
-returns c = on_next _ _ _ _ _ c.if-mark-eq0.false c.show-name.ensures
+returns c = on_next _ _ _ _ _ c.if-mark-eq0.false c.show_name.ensures

@@ -4,27 +4,27 @@ use Rattle.machine.proofs.StepFacts.{kind_unfit, row_unfit, memory_unfit, said-t
 use Rattle.machine.proofs.WholeFacts.{whole}
 use Rattle.machine.proofs.step.step.Goals as goal
 
-pub returns-then-kind-gt-GO-ON : goal.returns-then-kind-gt-GO-ON
-returns-then-kind-gt-GO-ON c = record { says = kind_unfit _ _ _ _ _ c.refused.ensures c.if-kind-gt-GO-ON.true; whole = whole }
+pub returns-then-kind-gt-GO_ON : goal.returns-then-kind-gt-GO_ON
+returns-then-kind-gt-GO_ON c = record { says = kind_unfit _ _ _ _ _ c.refused.ensures c.if-kind-gt-GO_ON.true; whole = whole }
 
-pub returns-then-out-lt-ROW-BYTES : goal.returns-then-out-lt-ROW-BYTES
-returns-then-out-lt-ROW-BYTES c =
-    record { says = row_unfit _ _ _ _ _ c.refused-then-out-lt-ROW-BYTES.ensures c.if-out-lt-ROW-BYTES.true; whole = whole }
+pub returns-then-out-lt-ROW_BYTES : goal.returns-then-out-lt-ROW_BYTES
+returns-then-out-lt-ROW_BYTES c =
+    record { says = row_unfit _ _ _ _ _ c.refused-then-out-lt-ROW_BYTES.ensures c.if-out-lt-ROW_BYTES.true; whole = whole }
 
-pub returns-then-not-memory-fits : goal.returns-then-not-memory-fits
-returns-then-not-memory-fits c =
-    record { says = memory_unfit _ _ _ _ _ c.refused-then-not-memory-fits.ensures (sym c.if-not-memory-fits.ensures); whole = whole }
+pub returns-then-not-memory_fits : goal.returns-then-not-memory_fits
+returns-then-not-memory_fits c =
+    record { says = memory_unfit _ _ _ _ _ c.refused-then-not-memory_fits.ensures (sym c.if-not-memory_fits.ensures); whole = whole }
 
-pub returns-then-kind-eq-GO-ON : goal.returns-then-kind-eq-GO-ON
-returns-then-kind-eq-GO-ON c =
+pub returns-then-kind-eq-GO_ON : goal.returns-then-kind-eq-GO_ON
+returns-then-kind-eq-GO_ON c =
     record {
-      says = next-told _ _ _ _ _ _ _ c.if-out-lt-ROW-BYTES.false (sym c.if-not-memory-fits.ensures) c.if-kind-eq-GO-ON.true c.go-on.ensures;
+      says = next-told _ _ _ _ _ _ _ c.if-out-lt-ROW_BYTES.false (sym c.if-not-memory_fits.ensures) c.if-kind-eq-GO_ON.true c.go_on.ensures;
       whole = whole;
     }
 
 pub returns : goal.returns
 returns c =
     record {
-      says = said-told _ _ _ _ _ _ _ c.if-out-lt-ROW-BYTES.false (sym c.if-not-memory-fits.ensures) (omega arith) c.obey.ensures;
+      says = said-told _ _ _ _ _ _ _ c.if-out-lt-ROW_BYTES.false (sym c.if-not-memory_fits.ensures) (omega arith) c.obey.ensures;
       whole = whole;
     }

@@ -6,5 +6,5 @@ use Rattle.scope.proofs.renaming.is_new.Goals as goal
 
 pub returns : goal.returns
 returns g c =
-    c.same-spans.ensures
+    c.same_spans.ensures
     ∙ ap (λ l. same l (spelled_in (g.S.Source.bytes c.args.src.now) c.args.name)) (between_to_end c.args.renaming.to.now 0 _ (omega arith))

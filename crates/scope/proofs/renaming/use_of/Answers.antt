@@ -6,6 +6,6 @@ use Rattle.scope.proofs.renaming.use_of.Goals as goal
 pub returns : goal.returns
 unfolding use_changes
 returns g c =
-    c.use-by.ensures
+    c.use_by.ensures
     ∙ ap₂ (λ o n. pick (o && not c.args.scope.old) (pick c.args.scope.new None (Some true)) (pick (n && not c.args.scope.new) None (Some false)))
-    c.is-old-old.ensures c.is-new-new.ensures
+    c.is_old-old.ensures c.is_new-new.ensures

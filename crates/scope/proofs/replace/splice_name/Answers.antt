@@ -12,37 +12,37 @@ use Rattle.scope.specs.Splicing.{clipped}
 use Rattle.scope.proofs.SpliceFacts.{clip_appends}
 use Rattle.scope.proofs.replace.splice_name.Goals as goal
 
-pub returns-in-default : goal.returns-in-default
-returns-in-default c =
+pub returns-in_default : goal.returns-in_default
+returns-in_default c =
     appends_stop c.args.memory.now c.args.splice.build (between c.args.splice.from c.args.at (held 0 c.args.memory.now)) (with_length c.args.renaming.to.now) _
-    (clip_appends c.args.memory.now c.args.splice.build c.clip-before.result c.args.splice.from c.args.at None c.append-span.new.memory
-    (c.clip-before.ensures.value ∙ ap (clipped c.args.splice.from c.args.at) (c.len.ensures ∙ ap length c.current.ensures)) c.in-default.ensures)
+    (clip_appends c.args.memory.now c.args.splice.build c.clip-before.result c.args.splice.from c.args.at None c.append_span.new.memory
+    (c.clip-before.ensures.value ∙ ap (clipped c.args.splice.from c.args.at) (c.len.ensures ∙ ap length c.current.ensures)) c.in_default.ensures)
 
-pub append-name-requires : goal.append-name-requires
-append-name-requires c =
-    let a : Appends c.args.memory.now c.args.splice.build (between c.args.splice.from c.args.at (held 0 c.args.memory.now)) (Some c.in-Some.copied) c.append-span.new.memory = (clip_appends c.args.memory.now c.args.splice.build c.clip-before.result c.args.splice.from c.args.at (Some c.in-Some.copied) c.append-span.new.memory
+pub append_name-requires : goal.append_name-requires
+append_name-requires c =
+    let a : Appends c.args.memory.now c.args.splice.build (between c.args.splice.from c.args.at (held 0 c.args.memory.now)) (Some c.in-Some.copied) c.append_span.new.memory = (clip_appends c.args.memory.now c.args.splice.build c.clip-before.result c.args.splice.from c.args.at (Some c.in-Some.copied) c.append_span.new.memory
     (c.clip-before.ensures.value ∙ ap (clipped c.args.splice.from c.args.at) (c.len.ensures ∙ ap length c.current.ensures)) c.in-Some.ensures) in
-    let t = appended_to c.args.memory.now c.args.splice.build (between c.args.splice.from c.args.at (held 0 c.args.memory.now)) c.append-span.new.memory c.in-Some.copied (omega arith) a in
+    let t = appended_to c.args.memory.now c.args.splice.build (between c.args.splice.from c.args.at (held 0 c.args.memory.now)) c.append_span.new.memory c.in-Some.copied (omega arith) a in
     (omega (arith, t.beside.long, memory-long c.args.memory.now c.requires.memory), (omega (arith, t.count, a.1), t.filled))
 
-pub returns-in-default-append-name : goal.returns-in-default-append-name
-returns-in-default-append-name c =
-    appends_then c.args.memory.now c.args.splice.build (between c.args.splice.from c.args.at (held 0 c.args.memory.now)) c.in-Some.copied c.append-span.new.memory (with_length c.args.renaming.to.now) None _ (omega arith)
-    (clip_appends c.args.memory.now c.args.splice.build c.clip-before.result c.args.splice.from c.args.at (Some c.in-Some.copied) c.append-span.new.memory
+pub returns-in_default-append_name : goal.returns-in_default-append_name
+returns-in_default-append_name c =
+    appends_then c.args.memory.now c.args.splice.build (between c.args.splice.from c.args.at (held 0 c.args.memory.now)) c.in-Some.copied c.append_span.new.memory (with_length c.args.renaming.to.now) None _ (omega arith)
+    (clip_appends c.args.memory.now c.args.splice.build c.clip-before.result c.args.splice.from c.args.at (Some c.in-Some.copied) c.append_span.new.memory
     (c.clip-before.ensures.value ∙ ap (clipped c.args.splice.from c.args.at) (c.len.ensures ∙ ap length c.current.ensures)) c.in-Some.ensures)
-    c.in-default-append-name.ensures
+    c.in_default-append_name.ensures
 
-pub overflow-add-result : goal.overflow-add-result
-overflow-add-result c = omega (arith, c.clip-before.ensures.within.1, c.len.ensures, ap length c.current.ensures, held-long 0 c.args.memory.now)
+pub overflow_add-result : goal.overflow_add-result
+overflow_add-result c = omega (arith, c.clip-before.ensures.within.1, c.len.ensures, ap length c.current.ensures, held-long 0 c.args.memory.now)
 
-pub overflow-add-result-2 : goal.overflow-add-result-2
-overflow-add-result-2 c = omega (arith, c.clip-before.ensures.within.1, c.len.ensures, ap length c.current.ensures, held-long 0 c.args.memory.now, c.requires.from)
+pub overflow_add-result-2 : goal.overflow_add-result-2
+overflow_add-result-2 c = omega (arith, c.clip-before.ensures.within.1, c.len.ensures, ap length c.current.ensures, held-long 0 c.args.memory.now, c.requires.from)
 
 pub returns : goal.returns
 returns c = (
-  appends_then c.args.memory.now c.args.splice.build (between c.args.splice.from c.args.at (held 0 c.args.memory.now)) c.in-Some.copied c.append-span.new.memory (with_length c.args.renaming.to.now) (Some c.in-Some-append-name.build) _ (omega arith)
-      (clip_appends c.args.memory.now c.args.splice.build c.clip-before.result c.args.splice.from c.args.at (Some c.in-Some.copied) c.append-span.new.memory
+  appends_then c.args.memory.now c.args.splice.build (between c.args.splice.from c.args.at (held 0 c.args.memory.now)) c.in-Some.copied c.append_span.new.memory (with_length c.args.renaming.to.now) (Some c.in-Some-append_name.build) _ (omega arith)
+      (clip_appends c.args.memory.now c.args.splice.build c.clip-before.result c.args.splice.from c.args.at (Some c.in-Some.copied) c.append_span.new.memory
       (c.clip-before.ensures.value ∙ ap (clipped c.args.splice.from c.args.at) (c.len.ensures ∙ ap length c.current.ensures)) c.in-Some.ensures)
-      c.in-Some-append-name.ensures,
+      c.in-Some-append_name.ensures,
   omega (arith, ap (λ (s : Span). s.to) (c.clip-before.ensures.value ∙ ap (clipped c.args.splice.from c.args.at) (c.len.ensures ∙ ap length c.current.ensures))),
 )

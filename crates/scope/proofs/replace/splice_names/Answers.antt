@@ -9,8 +9,8 @@ use Rattle.scope.proofs.replace.splice_names.Goals as goal
 pub loop-k-init : goal.loop-k-init
 loop-k-init c = splice_none _ _ _ _ _ c.requires.build.0
 
-pub splice-name-requires : goal.splice-name-requires
-splice-name-requires c =
+pub splice_name-requires : goal.splice_name-requires
+splice_name-requires c =
     let far = splice_far c.args.memory.now _ _ _ c.args.first c.requires.build.1 c.loop-k.splice c.loop-k.memory _ c.loop-k.invariant in
     record {
       memory = beside_fits _ _ far.beside c.requires.memory;
@@ -18,12 +18,12 @@ splice-name-requires c =
       build = (omega (arith, far.count, c.loop-k.invariant.written.1), far.filled);
     }
 
-pub returns-in-default : goal.returns-in-default
-returns-in-default c =
+pub returns-in_default : goal.returns-in_default
+returns-in_default c =
     let far = splice_far c.args.memory.now _ _ _ c.args.first c.requires.build.1 c.loop-k.splice c.loop-k.memory _ c.loop-k.invariant in
     splice_stop c.args.memory.now c.args.renaming.from c.args.renaming.to.now (listed c.args.memory.now c.args.count) c.args.first c.requires.build.1 c.loop-k.splice c.loop-k.memory _ _
     (drop (c.loop-k.k + 1) (listed c.args.memory.now c.args.count))
-    (next-name c.args.memory.now c.loop-k.memory c.args.count c.loop-k.k far.beside (omega arith) c.requires.count (memory-long _ c.requires.memory)) c.loop-k.invariant (beside_held _ _ far.beside) _ c.in-default.ensures
+    (next-name c.args.memory.now c.loop-k.memory c.args.count c.loop-k.k far.beside (omega arith) c.requires.count (memory-long _ c.requires.memory)) c.loop-k.invariant (beside_held _ _ far.beside) _ c.in_default.ensures
 
 pub loop-k-preserved : goal.loop-k-preserved
 loop-k-preserved c =

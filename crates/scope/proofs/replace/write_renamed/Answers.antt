@@ -11,8 +11,8 @@ use Rattle.scope.specs.Splicing.{clipped}
 use Rattle.scope.proofs.SpliceFacts.{beside, replaced_stop, last_appends, replaced_full, replaced_all, splice_far, beside_held, beside_fits}
 use Rattle.scope.proofs.replace.write_renamed.Goals as goal
 
-pub splice-names-requires : goal.splice-names-requires
-splice-names-requires c =
+pub splice_names-requires : goal.splice_names-requires
+splice_names-requires c =
     let b = beside c.args.memory.now c.begin.new.memory c.args.renaming.from c.args.renaming.to.now c.args.count (record { build = c.begin.result; from = 0 }) (memory-long c.args.memory.now c.requires.memory) c.begin.ensures.after c.begin.ensures.value refl c.requires.from.1 in
     record {
       memory = beside_fits c.args.memory.now c.begin.new.memory b c.requires.memory;
@@ -21,41 +21,41 @@ splice-names-requires c =
       build = (omega (arith, ap (λ (b : Build). b.words) c.begin.ensures.value, ap (λ (b : Build). b.filled) c.begin.ensures.value), (let z : c.begin.result.filled < 8 = omega (arith, ap (λ (b : Build). b.filled) c.begin.ensures.value) in z));
     }
 
-pub returns-in-default : goal.returns-in-default
-returns-in-default c = replaced_stop c.args.memory.now c.begin.new.memory c.args.renaming.from c.args.renaming.to.now c.args.count (record { build = c.begin.result; from = 0 }) (memory-long c.args.memory.now c.requires.memory) c.begin.ensures.after c.begin.ensures.value refl c.requires.from.1 _ c.in-default.ensures
+pub returns-in_default : goal.returns-in_default
+returns-in_default c = replaced_stop c.args.memory.now c.begin.new.memory c.args.renaming.from c.args.renaming.to.now c.args.count (record { build = c.begin.result; from = 0 }) (memory-long c.args.memory.now c.requires.memory) c.begin.ensures.after c.begin.ensures.value refl c.requires.from.1 _ c.in_default.ensures
 
 pub current-requires : goal.current-requires
 current-requires c =
-    beside_fits c.begin.new.memory c.splice-names.new.memory (splice_far c.begin.new.memory c.args.renaming.from c.args.renaming.to.now (listed c.begin.new.memory c.args.count) (record { build = c.begin.result; from = 0 }) (let z : c.begin.result.filled < 8 = omega (arith, ap (λ (b : Build). b.filled) c.begin.ensures.value) in z) c.in-Some.last c.splice-names.new.memory [] c.in-Some.ensures).beside
+    beside_fits c.begin.new.memory c.splice_names.new.memory (splice_far c.begin.new.memory c.args.renaming.from c.args.renaming.to.now (listed c.begin.new.memory c.args.count) (record { build = c.begin.result; from = 0 }) (let z : c.begin.result.filled < 8 = omega (arith, ap (λ (b : Build). b.filled) c.begin.ensures.value) in z) c.in-Some.last c.splice_names.new.memory [] c.in-Some.ensures).beside
     (beside_fits c.args.memory.now c.begin.new.memory (beside c.args.memory.now c.begin.new.memory c.args.renaming.from c.args.renaming.to.now c.args.count (record { build = c.begin.result; from = 0 }) (memory-long c.args.memory.now c.requires.memory) c.begin.ensures.after c.begin.ensures.value refl c.requires.from.1) c.requires.memory)
 
-pub append-span-requires : goal.append-span-requires
-append-span-requires c =
-    let far = splice_far c.begin.new.memory c.args.renaming.from c.args.renaming.to.now (listed c.begin.new.memory c.args.count) (record { build = c.begin.result; from = 0 }) (let z : c.begin.result.filled < 8 = omega (arith, ap (λ (b : Build). b.filled) c.begin.ensures.value) in z) c.in-Some.last c.splice-names.new.memory [] c.in-Some.ensures in
+pub append_span-requires : goal.append_span-requires
+append_span-requires c =
+    let far = splice_far c.begin.new.memory c.args.renaming.from c.args.renaming.to.now (listed c.begin.new.memory c.args.count) (record { build = c.begin.result; from = 0 }) (let z : c.begin.result.filled < 8 = omega (arith, ap (λ (b : Build). b.filled) c.begin.ensures.value) in z) c.in-Some.last c.splice_names.new.memory [] c.in-Some.ensures in
     record {
-      memory = beside_fits c.begin.new.memory c.splice-names.new.memory far.beside (beside_fits c.args.memory.now c.begin.new.memory (beside c.args.memory.now c.begin.new.memory c.args.renaming.from c.args.renaming.to.now c.args.count (record { build = c.begin.result; from = 0 }) (memory-long c.args.memory.now c.requires.memory) c.begin.ensures.after c.begin.ensures.value refl c.requires.from.1) c.requires.memory);
+      memory = beside_fits c.begin.new.memory c.splice_names.new.memory far.beside (beside_fits c.args.memory.now c.begin.new.memory (beside c.args.memory.now c.begin.new.memory c.args.renaming.from c.args.renaming.to.now c.args.count (record { build = c.begin.result; from = 0 }) (memory-long c.args.memory.now c.requires.memory) c.begin.ensures.after c.begin.ensures.value refl c.requires.from.1) c.requires.memory);
       build = (omega (arith, far.count, c.in-Some.ensures.written.1), far.filled);
       span = (c.clip.ensures.within.0, omega (arith, c.clip.ensures.within.1, c.len-len.ensures, ap length c.current.ensures));
     }
 
-pub returns-in-default-append-span : goal.returns-in-default-append-span
-returns-in-default-append-span c = replaced_full c.args.memory.now c.begin.new.memory c.args.renaming.from c.args.renaming.to.now c.args.count (record { build = c.begin.result; from = 0 }) (memory-long c.args.memory.now c.requires.memory) c.begin.ensures.after c.begin.ensures.value refl c.requires.from.1 _
+pub returns-in_default-append_span : goal.returns-in_default-append_span
+returns-in_default-append_span c = replaced_full c.args.memory.now c.begin.new.memory c.args.renaming.from c.args.renaming.to.now c.args.count (record { build = c.begin.result; from = 0 }) (memory-long c.args.memory.now c.requires.memory) c.begin.ensures.after c.begin.ensures.value refl c.requires.from.1 _
     (last_appends c.args.memory.now c.begin.new.memory c.args.renaming.from c.args.renaming.to.now c.args.count (record { build = c.begin.result; from = 0 }) (memory-long c.args.memory.now c.requires.memory) c.begin.ensures.after c.begin.ensures.value refl c.requires.from.1
-    c.in-Some.last c.splice-names.new.memory c.in-Some.ensures c.clip.result (c.clip.ensures.value ∙ ap (λ n. clipped c.in-Some.last.from n n) (c.len-len.ensures ∙ ap length c.current.ensures)) None c.append-span.new.memory c.in-default-append-span.ensures)
+    c.in-Some.last c.splice_names.new.memory c.in-Some.ensures c.clip.result (c.clip.ensures.value ∙ ap (λ n. clipped c.in-Some.last.from n n) (c.len-len.ensures ∙ ap length c.current.ensures)) None c.append_span.new.memory c.in_default-append_span.ensures)
 
 pub finish-requires : goal.finish-requires
 finish-requires c =
-    let a : Appends c.begin.new.memory c.begin.result (names_replaced (held 0 c.args.memory.now) (spelled_in (held 0 c.args.memory.now) c.args.renaming.from) c.args.renaming.to.now (listed c.args.memory.now c.args.count)) (Some c.in-Some-append-span.build) c.append-span.new.memory =
+    let a : Appends c.begin.new.memory c.begin.result (names_replaced (held 0 c.args.memory.now) (spelled_in (held 0 c.args.memory.now) c.args.renaming.from) c.args.renaming.to.now (listed c.args.memory.now c.args.count)) (Some c.in-Some-append_span.build) c.append_span.new.memory =
     last_appends c.args.memory.now c.begin.new.memory c.args.renaming.from c.args.renaming.to.now c.args.count (record { build = c.begin.result; from = 0 }) (memory-long c.args.memory.now c.requires.memory) c.begin.ensures.after c.begin.ensures.value refl c.requires.from.1
-    c.in-Some.last c.splice-names.new.memory c.in-Some.ensures c.clip.result (c.clip.ensures.value ∙ ap (λ n. clipped c.in-Some.last.from n n) (c.len-len.ensures ∙ ap length c.current.ensures)) (Some c.in-Some-append-span.build) c.append-span.new.memory c.in-Some-append-span.ensures in
-    let far = appended_to c.begin.new.memory c.begin.result (names_replaced (held 0 c.args.memory.now) (spelled_in (held 0 c.args.memory.now) c.args.renaming.from) c.args.renaming.to.now (listed c.args.memory.now c.args.count)) c.append-span.new.memory c.in-Some-append-span.build (let z : c.begin.result.filled < 8 = omega (arith, ap (λ (b : Build). b.filled) c.begin.ensures.value) in z) a in
+    c.in-Some.last c.splice_names.new.memory c.in-Some.ensures c.clip.result (c.clip.ensures.value ∙ ap (λ n. clipped c.in-Some.last.from n n) (c.len-len.ensures ∙ ap length c.current.ensures)) (Some c.in-Some-append_span.build) c.append_span.new.memory c.in-Some-append_span.ensures in
+    let far = appended_to c.begin.new.memory c.begin.result (names_replaced (held 0 c.args.memory.now) (spelled_in (held 0 c.args.memory.now) c.args.renaming.from) c.args.renaming.to.now (listed c.args.memory.now c.args.count)) c.append_span.new.memory c.in-Some-append_span.build (let z : c.begin.result.filled < 8 = omega (arith, ap (λ (b : Build). b.filled) c.begin.ensures.value) in z) a in
     (omega (arith, far.beside.long, (beside c.args.memory.now c.begin.new.memory c.args.renaming.from c.args.renaming.to.now c.args.count (record { build = c.begin.result; from = 0 }) (memory-long c.args.memory.now c.requires.memory) c.begin.ensures.after c.begin.ensures.value refl c.requires.from.1).long, memory-long c.args.memory.now c.requires.memory), (omega (arith, far.count, a.1), far.filled))
 
 pub returns : goal.returns
 returns c =
     replaced_all c.args.memory.now c.begin.new.memory c.args.renaming.from c.args.renaming.to.now c.args.count (record { build = c.begin.result; from = 0 }) (memory-long c.args.memory.now c.requires.memory) c.begin.ensures.after c.begin.ensures.value refl c.requires.from.1
     c.requires.bytes
-    c.in-Some-append-span.build c.append-span.new.memory
+    c.in-Some-append_span.build c.append_span.new.memory
     (last_appends c.args.memory.now c.begin.new.memory c.args.renaming.from c.args.renaming.to.now c.args.count (record { build = c.begin.result; from = 0 }) (memory-long c.args.memory.now c.requires.memory) c.begin.ensures.after c.begin.ensures.value refl c.requires.from.1
-    c.in-Some.last c.splice-names.new.memory c.in-Some.ensures c.clip.result (c.clip.ensures.value ∙ ap (λ n. clipped c.in-Some.last.from n n) (c.len-len.ensures ∙ ap length c.current.ensures)) (Some c.in-Some-append-span.build) c.append-span.new.memory c.in-Some-append-span.ensures)
+    c.in-Some.last c.splice_names.new.memory c.in-Some.ensures c.clip.result (c.clip.ensures.value ∙ ap (λ n. clipped c.in-Some.last.from n n) (c.len-len.ensures ∙ ap length c.current.ensures)) (Some c.in-Some-append_span.build) c.append_span.new.memory c.in-Some-append_span.ensures)
     _ _ c.finish.ensures.value c.finish.ensures.after

@@ -5,7 +5,7 @@ use Rattle.scope.proofs.uses.advance.Goals as goal
 pub returns : goal.returns
 returns c =
     record {
-      to = λ go. head_many go _ _ _ _ _ _ (sym c.arity-parts.ensures) (omega arith) (omega arith) ∙ c.open-frame.ensures.to go;
-      fits = c.open-frame.ensures.fits;
-      kept = c.open-frame.ensures.kept;
+      to = λ go. head_many go _ _ _ _ _ _ (sym c.arity-parts.ensures) (omega arith) (omega arith) ∙ c.open_frame.ensures.to go;
+      fits = c.open_frame.ensures.fits;
+      kept = c.open_frame.ensures.kept;
     }

@@ -10,8 +10,8 @@ pub returns : goal.returns
 returns c =
     record {
       to = λ go.
-          leaf_next _ _ _ _ _ (frame_told c.frame-at-frame.result) (omega arith) c.frame-at-frame.ensures c.take-part-left.ensures.value
-          c.take-part-left.ensures.kept go;
-      fits = (refl, c.take-part-left.ensures.few, omega arith);
-      kept = c.take-part-left.ensures.kept;
+          leaf_next _ _ _ _ _ (frame_told c.frame_at-frame.result) (omega arith) c.frame_at-frame.ensures c.take_part-left.ensures.value
+          c.take_part-left.ensures.kept go;
+      fits = (refl, c.take_part-left.ensures.few, omega arith);
+      kept = c.take_part-left.ensures.kept;
     }

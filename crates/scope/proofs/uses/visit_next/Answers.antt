@@ -3,18 +3,18 @@ use Rattle.memory.proofs.LayoutFacts.{memory-long}
 use Rattle.scope.proofs.VisitFacts.{visit_blind, visit_full, visit_on}
 use Rattle.scope.proofs.uses.visit_next.Goals as goal
 
-pub returns-in-default : goal.returns-in-default
-returns-in-default c = visit_blind _ _ _ _ _ c.in-default.ensures.value
+pub returns-in_default : goal.returns-in_default
+returns-in_default c = visit_blind _ _ _ _ _ c.in_default.ensures.value
 
-pub returns-in-default-note-use : goal.returns-in-default-note-use
-returns-in-default-note-use c =
+pub returns-in_default-note_use : goal.returns-in_default-note_use
+returns-in_default-note_use c =
     visit_full _ _ _ _ c.args.walk c.in-Some.seen.node.kind c.in-Some.seen.node.end _ _ c.in-Some.ensures.value _ (omega arith)
-    c.in-default-note-use.ensures.frames c.in-default-note-use.ensures.behind c.in-default-note-use.ensures.value
+    c.in_default-note_use.ensures.frames c.in_default-note_use.ensures.behind c.in_default-note_use.ensures.value
 
 pub advance-requires : goal.advance-requires
-advance-requires c = (omega (arith, memory-long c.args.memory.now c.requires.memory), (omega arith, c.in-Some-note-use.ensures.few))
+advance-requires c = (omega (arith, memory-long c.args.memory.now c.requires.memory), (omega arith, c.in-Some-note_use.ensures.few))
 
 pub returns : goal.returns
 returns c =
     visit_on _ _ _ _ c.args.walk c.in-Some.seen.node.kind c.in-Some.seen.node.end _ _ c.in-Some.ensures.value _ (omega arith)
-    c.in-Some-note-use.ensures.frames c.in-Some-note-use.ensures.behind (omega arith) _ c.in-Some-note-use.ensures.value _ _ c.advance.ensures
+    c.in-Some-note_use.ensures.frames c.in-Some-note_use.ensures.behind (omega arith) _ c.in-Some-note_use.ensures.value _ _ c.advance.ensures

@@ -6,8 +6,8 @@ use Rattle.scope.proofs.uses.walk_through.Goals as goal
 pub loop-turn-init : goal.loop-turn-init
 loop-turn-init c = walked_none _ _ _ _ c.requires.walk.0 c.requires.walk.1
 
-pub visit-next-requires : goal.visit-next-requires
-visit-next-requires c =
+pub visit_next-requires : goal.visit_next-requires
+visit_next-requires c =
     record {
       memory = kept-fits _ _ c.loop-turn.invariant.kept c.requires.memory;
       from = (c.requires.from.0, omega (arith, c.requires.from.1, ap length (kept-held _ _ c.loop-turn.invariant.kept)));
