@@ -1,4 +1,6 @@
 // A machine on the bench: it is lent a memory and a row of any lengths, and what a step did to them is looked at.
+ghost use Rattle.std.specs.Prelude.{OnOk, IsTrue};
+
 use machine::step::{GO_ON, ROW_BYTES, SAID, step};
 use machine::told::Told;
 use memory::layout::MEMORY_WORDS;
@@ -7,6 +9,16 @@ use std::test::*;
 
 // What each byte of the row is before a step. No row of these examples has it.
 const UNTOUCHED: u8 = 0xaa;
+
+// The test fails with this message, unless the fact holds.
+fn check(holds: bool, otherwise: &str) -> Result<(), Fail>
+    ensures { OnOk result (IsTrue holds) }
+{
+    if holds {
+        return Ok(());
+    }
+    Err(Fail::new(otherwise))
+}
 
 #[derive(Drop)]
 pub struct Bench {
@@ -26,12 +38,12 @@ impl Bench {
     }
 
     pub fn word(&self, at: usize) -> Result<u64, Fail> {
-        assert!(at < self.memory.len());
+        check(at < self.memory.len(), "no such word")?;
         Ok(self.memory[at])
     }
 
     pub fn set_word(&mut self, at: usize, value: u64) -> Result<(), Fail> {
-        assert!(at < self.memory.len());
+        check(at < self.memory.len(), "no such word")?;
         self.memory[at] = value;
         Ok(())
     }
@@ -47,17 +59,13 @@ impl Bench {
 
     // The command is done.
     pub fn does(&mut self, command: &[u8]) -> Result<(), Fail> {
-        assert!(matches!(self.step(SAID, command), Told::Done));
-        Ok(())
+        check(matches!(self.step(SAID, command), Told::Done), "not done")
     }
 
     // The command is refused with this number.
     pub fn refuses(&mut self, command: &[u8], number: u64) -> Result<(), Fail> {
         match self.step(SAID, command) {
-            Told::No(reason) => {
-                assert_eq!(reason, number);
-                Ok(())
-            },
+            Told::No(reason) => check(reason == number, "refused with another number"),
             _ => Err(Fail::new("not refused")),
         }
     }
@@ -76,8 +84,7 @@ impl Bench {
 
     // The answer under way has no more rows.
     pub fn ends(&mut self) -> Result<(), Fail> {
-        assert!(matches!(self.step(GO_ON, &[]), Told::Done));
-        Ok(())
+        check(matches!(self.step(GO_ON, &[]), Told::Done), "does not end")
     }
 
     // No answer is under way.
@@ -90,11 +97,14 @@ impl Bench {
         let Told::Shows(len) = told else {
             return Err(Fail::new("no row is shown"));
         };
-        assert_eq!(len, row.len() as u64);
-        assert!(row.len() <= self.row.len());
-        assert!(&self.row[..row.len()] == row);
+        check(len == row.len() as u64, "the row is of another length")?;
+        check(
+            row.len() <= self.row.len(),
+            "the row is longer than the lent one",
+        )?;
+        check(&self.row[..row.len()] == row, "the row is another")?;
         for byte in &self.row[row.len()..] {
-            assert!(*byte == UNTOUCHED);
+            check(*byte == UNTOUCHED, "a byte behind the row is written")?;
         }
         self.row.as_mut_slice().fill(UNTOUCHED);
         Ok(())
@@ -104,9 +114,11 @@ impl Bench {
     pub fn misused(&mut self, kind: u64, text: &[u8]) -> Result<(), Fail> {
         let memory = self.memory.clone()?;
         let row = self.row.clone()?;
-        assert!(matches!(self.step(kind, text), Told::No(0)));
-        assert!(self.memory == memory);
-        assert!(self.row == row);
-        Ok(())
+        check(
+            matches!(self.step(kind, text), Told::No(0)),
+            "not refused as misuse",
+        )?;
+        check(self.memory == memory, "a word of the memory is changed")?;
+        check(self.row == row, "a byte of the row is changed")
     }
 }

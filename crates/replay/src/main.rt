@@ -11,10 +11,11 @@ use player::Player;
 use std::env;
 use std::fs::File;
 use std::io::{BufRead, BufReader, Read};
+use std::process::ExitCode;
 
 fn play_lines<R: Read + Drop>(player: &mut Player, source: R) -> Result<(), Stop> {
     player.start();
-    let mut input = BufReader::new(source);
+    let mut input = BufReader::new(player.heap(), source)?;
     let mut line = Vec::new(player.heap());
     // Nothing says that an input ends, so its lines are counted.
     for _ in 0..u64::MAX {
@@ -63,10 +64,12 @@ fn replay(rt: &HostRuntime) -> Result<(), Fault> {
     played
 }
 
-fn main(rt: HostRuntime) -> Result<(), Fault> {
-    let replayed = replay(&rt);
-    if let Err(fault) = &replayed {
-        let _ = eprintln!(rt; "replay: {fault}");
+fn main(rt: HostRuntime) -> ExitCode {
+    match replay(&rt) {
+        Ok(()) => ExitCode::SUCCESS,
+        Err(fault) => {
+            let _ = eprintln!(rt; "replay: {fault}");
+            ExitCode::FAILURE
+        }
     }
-    replayed
 }
