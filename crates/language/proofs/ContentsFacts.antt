@@ -1,11 +1,11 @@
 -- One name, or one function, after the other. Assumes nothing.
-use Rattle.std.proofs.Common.{◌≡◌, ℕ, zero, suc, ◌+◌, ◌<◌, ◌≤◌, Bool, true, false, not, ◌&&◌, List, [], ◌∷◌, Some, None, Option, sym, refl, ap, ◌∙◌, ap₂, arith}
+use Rattle.std.proofs.Common.{◌≡◌, ℕ, suc, ◌+◌, true, false, not, ◌&&◌, List, [], ◌∷◌, Some, None, sym, ap, ◌∙◌, ap₂}
 use Rattle.std.specs.List.{between}
 use Rattle.language.specs.Basics.{pick, or, same}
 use Rattle.language.specs.Bytes.{Name}
 use Rattle.language.specs.Names.{has, distinct}
 use Rattle.language.specs.Reading.{found, number_at, name_end, fun_end}
-use Rattle.language.specs.Contents.{listed, passed, name_there, names_from, own_names, fun_names, owns_differ, find_from}
+use Rattle.language.specs.Contents.{listed, passed, name_there, names_from, own_names, owns_differ, find_from}
 
 -- looking for a function
 module _ (bs : List ℕ) (x : Name) (i n m : ℕ) where

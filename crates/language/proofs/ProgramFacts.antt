@@ -9,7 +9,7 @@ use Rattle.language.specs.Bytes.{Name, eight, with_length, all_bytes}
 use Rattle.language.specs.Expr.{Expr, Fun, Program}
 use Rattle.language.specs.Spelling.{expr_spelled, fun_spelled, program_spelled}
 use Rattle.language.specs.Fits.{a_name, an_expr, a_fun, a_program}
-use Rattle.language.specs.Reading.{found, times, number_at, name_end, ends, expr_end, params_end, fun_end, ends_at, funs_fill, is_program}
+use Rattle.language.specs.Reading.{found, times, number_at, name_end, expr_end, params_end, fun_end, ends_at, funs_fill, is_program}
 use Rattle.language.proofs.ReadingFacts.{times-done, times_more, found_some, pick-found}
 use Rattle.language.proofs.StandsFacts.{Stands, stands-first, stands-second, stands_join, length-eight, number_stands, number_there}
 use Rattle.language.proofs.HeadFacts.{length_with, name-stands, name_there}

@@ -1,10 +1,9 @@
 -- What stands at a place in a row of bytes, one thing after another; and numbers as eight bytes, there and back. Assumes nothing.
-use Rattle.std.proofs.Common.{◌≡◌, ℕ, zero, suc, ◌+◌, ◌-◌, ◌*◌, ◌/◌, ◌%◌, ◌<◌, ◌≤◌, Bool, true, false, ◌&&◌, eqb, ltb, leb, List, [], ◌∷◌, ◌++◌, length, get_or, take, drop, Some, None, Option, sym, refl, ap, ◌∙◌, subst, ap₂, add-zero, arith, ltb-true, lt-ltb, le-leb, leb-true}
-use borrow.Author.Tests.{clash}
+use Rattle.std.proofs.Common.{◌≡◌, ℕ, zero, suc, ◌+◌, ◌*◌, ◌<◌, ◌≤◌, Bool, true, false, ltb, leb, List, [], ◌∷◌, ◌++◌, length, get_or, take, drop, Some, None, sym, refl, ap, ◌∙◌, ap₂, add-zero, arith, ltb-true, le-leb, leb-true}
 use Rattle.std.specs.Int.Digits.{number_from_digits}
 use Rattle.std.proofs.lemmas.List.{append_assoc, length-append, length-drop, drop-drop, drop_at, take_at, drop_more, take-append-drop, get_or-drop}
-use Rattle.std.proofs.lemmas.Bool.{and_parts, and_from}
-use Rattle.language.specs.Basics.{pick, every}
+use Rattle.std.proofs.lemmas.Bool.{and_parts}
+use Rattle.language.specs.Basics.{pick}
 use Rattle.language.specs.Bytes.{in_bytes, eight, all_bytes}
 use Rattle.language.specs.Reading.{number_at}
 use Rattle.language.proofs.ReadingFacts.{take-eight, number_eight}

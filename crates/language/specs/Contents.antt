@@ -1,10 +1,10 @@
 -- What a program's spelling has: its functions' names, where a function stands, and whether names differ. Total, as all reading is.
 -- Assumes nothing: these are definitions.
-use Rattle.std.specs.Prelude.{ℕ, zero, suc, ◌+◌, Bool, true, false, not, ◌&&◌, List, [], ◌∷◌, Some, None, Option}
+use Rattle.std.specs.Prelude.{ℕ, zero, suc, ◌+◌, Bool, true, ◌&&◌, List, [], ◌∷◌, Some, None, Option}
 use Rattle.std.specs.List.{between}
 use Rattle.language.specs.Basics.{pick, same}
 use Rattle.language.specs.Bytes.{Name}
-use Rattle.language.specs.Names.{has, distinct}
+use Rattle.language.specs.Names.{distinct}
 use Rattle.language.specs.Reading.{found, number_at, name_end, params_end, fun_end}
 
 abbrev pub listed : {A : Type 0} → Option ℕ → (ℕ → List A) → List A

@@ -1,5 +1,5 @@
 -- Loading, showing, names and going back end as the model has them. Assumes nothing.
-use Rattle.std.proofs.Common.{◌≡◌, ℕ, zero, suc, ◌+◌, ◌-◌, ◌<◌, ◌≤◌, Bool, true, false, eqb, ltb, List, [], ◌∷◌, ◌++◌, length, get_or, set, Some, None, Option, sym, refl, ap, ◌∙◌, subst, ap₂, add-zero, arith, le-ltb, lt-ltb, eq-eqb, ne_eqb}
+use Rattle.std.proofs.Common.{◌≡◌, ℕ, suc, ◌+◌, ◌-◌, ◌<◌, ◌≤◌, Bool, true, false, eqb, ltb, List, [], ◌∷◌, ◌++◌, length, get_or, set, Some, None, Option, sym, refl, ap, ◌∙◌, subst, ap₂, arith, le-ltb, lt-ltb, eq-eqb, ne_eqb}
 use Rattle.std.specs.List.{between}
 use Rattle.std.proofs.lemmas.List.{get_or-set_same, set-set, append_assoc, append-nil, length-append}
 use Rattle.language.specs.Basics.{pick, each, every, flat}
@@ -8,17 +8,17 @@ use Rattle.language.specs.Expr.{Fun, Program}
 use Rattle.language.specs.Meaning.{fun_of}
 use Rattle.language.specs.Spelling.{fun_spelled, program_spelled}
 use Rattle.language.specs.Fits.{a_fun, a_program}
-use Rattle.language.specs.Reading.{found, name_end, fun_end}
-use Rattle.language.specs.Contents.{listed, is_fine, find_function}
+use Rattle.language.specs.Reading.{found, fun_end}
+use Rattle.language.specs.Contents.{listed, is_fine}
 use Rattle.language.proofs.ByteFacts.{bytes_program}
 use Rattle.language.proofs.StandsFacts.{Stands, length-eight}
 use Rattle.language.proofs.ProgramFacts.{fun-long, program_short, program_funs}
 use Rattle.language.proofs.ProgramFits.{program_fits}
-use Rattle.language.proofs.ContentsLaws.{NextFun, next-fun, fine_law, find_program_none, FoundIn, find_program_some}
-use Rattle.model.specs.Command.{Command, load, show, names, undo, fits}
+use Rattle.language.proofs.ContentsLaws.{NextFun, next-fun, fine_law, find_program_none, find_program_some}
+use Rattle.model.specs.Command.{load, show, names, undo, fits}
 use Rattle.model.specs.State.{Plain, Turn, no, yes_with, at_first_fun, fine}
 use Rattle.model.specs.Model.{undone, turn}
-use Rattle.model.specs.Engine.{shows, done, refused, Step, ran}
+use Rattle.model.specs.Engine.{shows, done, refused, ran}
 use Rattle.model.proofs.StayFacts.{Sound, sound_stays}
 use Rattle.memory.specs.Layout.{mark, older, memory_fits, held}
 use Rattle.machine.specs.History.{loaded, gone_back}

@@ -1,18 +1,16 @@
 -- When a memory holds what stands in the model: the current program and those before it, as they are spelled. Assumes nothing.
-use Rattle.std.proofs.Common.{◌≡◌, ℕ, zero, suc, ◌+◌, ◌-◌, ◌<◌, ◌≤◌, Bool, true, false, List, [], ◌∷◌, length, get_or, take, drop, set, sym, refl, ap, ◌∙◌, ap₂, arith}
+use Rattle.std.proofs.Common.{◌≡◌, ℕ, zero, suc, ◌+◌, ◌-◌, ◌<◌, ◌≤◌, true, List, [], length, get_or, take, set, sym, refl, ap, ◌∙◌, ap₂, arith}
 use lib.ListN.{length-replicate}
 use Rattle.std.proofs.lemmas.List.{get_or-set_other, get_or-replicate, drop-replicate, take-replicate, take_at, append-nil}
 use Rattle.language.specs.Basics.{flat}
 use Rattle.language.specs.Bytes.{eight}
 use Rattle.language.proofs.StandsFacts.{length-eight}
-use Rattle.language.specs.Expr.{Program}
 use Rattle.language.specs.Spelling.{program_spelled}
-use Rattle.language.specs.Fits.{a_program}
 use Rattle.model.specs.State.{Plain, at_first}
 use Rattle.model.proofs.StayFacts.{Sound, sound_start}
-use Rattle.memory.specs.Layout.{memory_words, zero_words, mark, older, memory_fits, slot, held}
+use Rattle.memory.specs.Layout.{memory_words, zero_words, older, memory_fits, slot, held}
 use Rattle.machine.specs.Machine.{own}
-use Rattle.machine.proofs.RegionFacts.{FitWords, words_fit, held-set, fits_marked}
+use Rattle.machine.proofs.RegionFacts.{words_fit, held-set, fits_marked}
 
 pub record Holds (m : List ℕ) (w : Plain) : Type 0 where
   pub fits : memory_fits m ≡ true

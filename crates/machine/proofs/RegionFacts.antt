@@ -1,10 +1,10 @@
 -- What a write to the header, going back and loading leave of each program that is held. Assumes nothing.
-use Rattle.std.proofs.Common.{◌≡◌, ℕ, zero, suc, ◌+◌, ◌-◌, ◌*◌, ◌<◌, ◌≤◌, Bool, true, false, ◌&&◌, eqb, leb, ◌≢◌, List, [], ◌∷◌, ◌++◌, length, get_or, take, drop, set, sym, refl, ap, ◌∙◌, subst, ap₂, arith, eq-eqb, eqb-true, le-leb, leb-false, leb-true}
+use Rattle.std.proofs.Common.{◌≡◌, ℕ, zero, suc, ◌+◌, ◌-◌, ◌*◌, ◌<◌, ◌≤◌, Bool, true, false, ◌&&◌, eqb, leb, ◌≢◌, List, ◌++◌, length, get_or, take, drop, set, sym, refl, ap, ◌∙◌, subst, ap₂, arith, eq-eqb, le-leb, leb-false, leb-true}
 use lib.Seq.{paste}
 use Rattle.std.proofs.lemmas.List.Edits.{length-paste, paste_all}
 use Rattle.std.proofs.lemmas.List.{drop-set-lt, get_or-set_same, get_or-set_other, length-set, get_or-take, get_or-drop, length-take-le, length-drop, drop_at}
 use Rattle.std.proofs.lemmas.Bool.{and_parts, and_from}
-use Rattle.language.specs.Basics.{every, flat}
+use Rattle.language.specs.Basics.{flat}
 use Rattle.language.specs.Bytes.{eight, all_bytes}
 use Rattle.language.specs.Packed.{packed}
 use Rattle.language.proofs.ListFacts.{every_from, every-at, take_past}

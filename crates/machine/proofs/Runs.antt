@@ -1,10 +1,10 @@
 -- A command from its first step to its end, and that it ends as the model has it. Assumes nothing.
-use Rattle.std.proofs.Common.{◌≡◌, ℕ, zero, suc, ◌+◌, ◌-◌, ◌<◌, ◌≤◌, Bool, true, false, List, [], ◌∷◌, ◌++◌, length, set, sym, refl, ap, ◌∙◌, subst, ap₂, inl, inr}
+use Rattle.std.proofs.Common.{◌≡◌, ℕ, suc, Bool, true, List, [], ◌∷◌, ◌++◌, set, sym, refl, ap, ◌∙◌, subst, inl}
 use Rattle.language.specs.Basics.{pick}
 use Rattle.model.specs.Command.{Command}
 use Rattle.model.specs.State.{Plain, Turn}
 use Rattle.model.specs.Model.{turn}
-use Rattle.model.specs.Engine.{Event, said, next, shows, done, refused, Step, Engine, Ran, ran, refusal_end, one_act, runs}
+use Rattle.model.specs.Engine.{Event, said, next, shows, done, refused, Step, Ran, ran, refusal_end, one_act, runs}
 use Rattle.model.specs.Whole.{Said, May}
 use Rattle.model.specs.Reading.{asked}
 use Rattle.model.specs.Simulation.{Answered}

@@ -1,5 +1,5 @@
 -- A step leaves the memory as long as it was, and its numbers within 64 bits. Assumes nothing.
-use Rattle.std.proofs.Common.{◌≡◌, ℕ, zero, suc, ◌+◌, ◌-◌, ◌<◌, ◌≤◌, true, ltb, List, [], ◌∷◌, ◌++◌, length, get_or, take, drop, set, Some, sym, refl, ap, ◌∙◌, arith, length-set, lt-ltb}
+use Rattle.std.proofs.Common.{◌≡◌, ℕ, zero, suc, ◌+◌, ◌-◌, ◌<◌, ◌≤◌, true, ltb, List, [], ◌∷◌, ◌++◌, length, get_or, take, drop, set, Some, sym, refl, ◌∙◌, arith, length-set, lt-ltb}
 use lib.Seq.{paste}
 use Rattle.std.proofs.lemmas.Bool.{and_parts, and_from}
 use Rattle.language.specs.Basics.{flat}
@@ -10,7 +10,7 @@ use Rattle.language.specs.Packed.{packed}
 use Rattle.language.proofs.ListFacts.{every_take, every_drop, every_append}
 use Rattle.language.proofs.ByteFacts.{bytes_append, bytes_eight}
 use Rattle.language.proofs.StandsFacts.{stands_in}
-use Rattle.language.proofs.ProgramFacts.{There, Reads, fun_reads, fun-long}
+use Rattle.language.proofs.ProgramFacts.{fun_reads, fun-long}
 use Rattle.language.proofs.PackedLaws.{length_packed_words, packed-small}
 use Rattle.model.specs.Engine.{all_small}
 use Rattle.memory.specs.Layout.{memory_words, zero_words, older, memory_fits, slot, held, frames_at, put_words}

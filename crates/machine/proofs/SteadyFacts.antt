@@ -1,22 +1,21 @@
 -- The machine's memory is zeros at the start, and no step makes it longer or its numbers larger than 64 bits. Assumes nothing.
-use Rattle.std.proofs.Common.{◌≡◌, ℕ, zero, suc, ◌+◌, ◌-◌, ◌<◌, ◌≤◌, Bool, true, false, eqb, ltb, List, length, set, Some, None, Option, sym, refl, ap, ◌∙◌, subst, arith}
+use Rattle.std.proofs.Common.{◌≡◌, ℕ, zero, suc, ◌+◌, ◌-◌, ◌≤◌, Bool, true, false, eqb, ltb, List, length, set, Some, None, Option, refl, ap, subst, arith}
 use lib.ListN.{length-replicate}
 use Rattle.std.specs.List.{between}
 use Rattle.language.specs.Basics.{pick, every}
 use Rattle.language.specs.Bytes.{Name, all_bytes}
-use Rattle.language.specs.Spelling.{program_spelled}
 use Rattle.language.specs.Reading.{found, name_end, fun_end}
 use Rattle.language.specs.Contents.{is_fine}
 use Rattle.language.proofs.ProgramFacts.{program_short}
 use Rattle.language.proofs.ReadingFacts.{found_some}
 use Rattle.language.proofs.ByteFacts.{bytes_program}
 use Rattle.model.specs.Command.{Command, load, show, names, rename_bind, rename_param, rename_fun, extract, inline_bind, inline_call, turn_cond, drop_fun, undo}
-use Rattle.model.specs.Engine.{Event, said, next, refused, done, shows, Steady}
+use Rattle.model.specs.Engine.{Event, said, next, refused, done, Steady}
 use Rattle.model.specs.Reading.{Ask, loading, asking, Asks, asked}
 use Rattle.model.proofs.AskedFacts.{asked-said}
-use Rattle.memory.specs.Layout.{memory_words, zero_words, mark, older, memory_fits, held}
+use Rattle.memory.specs.Layout.{zero_words, mark, older, memory_fits, held}
 use Rattle.machine.specs.History.{loaded, gone_back}
-use Rattle.machine.specs.Machine.{stepped, table_cleared, load_step, function_row, row_shown, show_step, Row, row, name_row, name_shown, names_step, undo_step, command_step, ask_step, obeyed, gone_on, by_event, step_of, own}
+use Rattle.machine.specs.Machine.{stepped, table_cleared, load_step, function_row, row_shown, show_step, Row, row, name_row, name_shown, names_step, undo_step, command_step, obeyed, gone_on, by_event, step_of, own}
 use Rattle.memory.proofs.LayoutFacts.{memory-long}
 use Rattle.machine.proofs.RegionFacts.{fits_marked, cleared_fits}
 use Rattle.machine.proofs.SizeFacts.{KeepsSize, size_refl, size_then, size_set, size_back, size_cleared, size_loaded, fun_within}

@@ -1,19 +1,16 @@
 -- The machine does what the model does, whatever is said. Assumes nothing.
-use Rattle.std.proofs.Common.{◌≡◌, ℕ, Bool, true, false, List, [], set, Some, None, Option, sym, refl, ap, ◌∙◌, subst, inl, inr, arith}
-use borrow.Author.Tests.{clash}
-use Rattle.language.specs.Spelling.{program_spelled}
+use Rattle.std.proofs.Common.{◌≡◌, ℕ, true, false, List, [], set, Some, None, Option, sym, refl, ap, ◌∙◌, subst, inl, inr, arith}
 use Rattle.model.specs.Command.{Command, load, show, names, rename_bind, rename_param, rename_fun, extract, inline_bind, inline_call, turn_cond, drop_fun, undo}
 use Rattle.model.specs.Known.{basics}
-use Rattle.model.specs.State.{Plain, at_first}
+use Rattle.model.specs.State.{Plain}
 use Rattle.model.specs.Engine.{said, refused, Ran, ran, refusal_end, runs}
-use Rattle.model.specs.Model.{turn}
 use Rattle.model.specs.Reading.{Ask, loading, asking, Asks, asked}
-use Rattle.model.specs.Whole.{Never, Said, May, Means, Whole}
+use Rattle.model.specs.Whole.{Never, Said, May, Whole}
 use Rattle.model.specs.Simulation.{Answered, Simulates}
 use Rattle.model.proofs.SimulationFacts.{whole_from}
 use Rattle.model.proofs.AskedFacts.{said-asked, asked-said, load-asked}
 use Rattle.model.proofs.EveryMeaning.{every_means}
-use Rattle.machine.specs.Machine.{stepped, load_step, show_step, names_step, undo_step, command_step, ask_step, obeyed, own}
+use Rattle.machine.specs.Machine.{stepped, load_step, command_step, obeyed, own}
 use Rattle.machine.proofs.SteadyFacts.{steady}
 use Rattle.machine.proofs.HoldsFacts.{Holds, holds_marked, holds-start}
 use Rattle.machine.proofs.Runs.{run, run_refused, run_said, Obeys, obeys_answered}

@@ -1,5 +1,5 @@
 -- How a step of a machine is told to the world outside. Assumes nothing: these are definitions.
-use Rattle.std.specs.Prelude.{◌≡◌, ℕ, Bool, true, false, ◌&&◌, List, [], ◌++◌, length, drop, ◌==◌, nat_le}
+use Rattle.std.specs.Prelude.{◌≡◌, ℕ, Bool, true, false, ◌&&◌, List, ◌++◌, length, drop, ◌==◌, nat_le}
 use Rattle.language.specs.Basics.{pick}
 use Rattle.model.specs.Engine.{Event, said, next, Act, shows, done, refused, Step, Engine}
 use Rattle.language.specs.Reading.{is_program}

@@ -1,18 +1,16 @@
 -- A program that was written byte by byte into an area of zeros stands there, eight bytes to a word. By induction on its bytes, eight at a time.
 -- Assumes nothing.
-use Rattle.std.proofs.Common.{◌≡◌, ℕ, zero, suc, ◌+◌, ◌-◌, ◌*◌, ◌/◌, ◌%◌, ◌<◌, ◌≤◌, true, ltb, List, [], ◌∷◌, ◌++◌, map, length, get_or, take, drop, set, replicate, sym, refl, ap, ◌∙◌, ap₂, add-zero, arith}
+use Rattle.std.proofs.Common.{◌≡◌, ℕ, zero, suc, ◌+◌, ◌-◌, ◌*◌, ◌%◌, ◌<◌, ◌≤◌, true, ltb, List, [], ◌∷◌, ◌++◌, length, get_or, take, drop, set, sym, refl, ap, ◌∙◌, ap₂, add-zero, arith}
 use lib.ListN.{length-replicate}
-use Rattle.std.specs.List.{range_with_len}
 use Rattle.std.specs.Int.Digits.{number_from_digits}
 use Rattle.std.proofs.lemmas.List.{length-set, length-append, length-take-le, length-drop, append_assoc, take-append-drop, take_at, drop_at, drop-set-lt, drop-replicate, drop-drop, drop-append-le, take_more_set, ext_get_or}
-use Rattle.language.specs.Basics.{every}
 use Rattle.language.specs.Bytes.{all_bytes}
-use Rattle.language.specs.Packed.{words_for, word_of, packed}
+use Rattle.language.specs.Packed.{word_of, packed}
 use Rattle.language.proofs.ListFacts.{every_drop}
 use Rattle.language.proofs.StandsFacts.{bytes_below}
 use Rattle.language.proofs.PackedLaws.{length_packed_words, packed_word}
 use Rattle.memory.specs.Layout.{memory_words, zero_words, build_at, put_words, slot_filled}
-use Rattle.memory.specs.Build.{build_of, Writing, writing, word_with, pushed_all, finished}
+use Rattle.memory.specs.Build.{build_of, writing, pushed_all, finished}
 
 -- words put one after the other
 pub put_each : List ℕ → ℕ → List ℕ → List ℕ

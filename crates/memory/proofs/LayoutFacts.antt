@@ -1,5 +1,5 @@
 -- A memory that fits: its length, and how long what it holds can be. Assumes nothing.
-use Rattle.std.proofs.Common.{◌≡◌, ℕ, zero, suc, ◌+◌, ◌-◌, ◌*◌, ◌<◌, ◌≤◌, Bool, true, false, ◌&&◌, eqb, ltb, leb, List, [], ◌∷◌, length, get_or, take, drop, sym, refl, ap, ◌∙◌, ap₂, arith, eqb-true, leb-true}
+use Rattle.std.proofs.Common.{◌≡◌, ℕ, ◌+◌, ◌-◌, ◌*◌, ◌<◌, ◌≤◌, true, ◌&&◌, eqb, ltb, leb, List, [], ◌∷◌, length, get_or, take, drop, sym, refl, ap, ◌∙◌, ap₂, arith, eqb-true, leb-true}
 use Rattle.std.proofs.lemmas.List.{length-take, get_or-take, drop-take, take-take}
 use Rattle.std.proofs.lemmas.Bool.{and_parts}
 use Rattle.language.specs.Basics.{flat}

@@ -1,17 +1,17 @@
 -- The fields of a command are read from the front of what is spelled, and what is read was spelled there. Assumes nothing.
-use Rattle.std.proofs.Common.{◌≡◌, ℕ, ◌+◌, ◌-◌, ◌<◌, ◌≤◌, Bool, true, false, ◌&&◌, eqb, ltb, leb, List, [], ◌∷◌, ◌++◌, length, get_or, take, drop, Some, None, Option, sym, refl, ap, ◌∙◌, subst, ap₂, arith, eqb-true, le-leb, leb-true}
+use Rattle.std.proofs.Common.{◌≡◌, ℕ, ◌+◌, ◌-◌, ◌≤◌, Bool, true, false, ◌&&◌, ltb, leb, List, [], ◌∷◌, ◌++◌, length, take, drop, Some, None, Option, sym, refl, ap, ◌∙◌, subst, ap₂, arith, le-leb, leb-true}
 use borrow.Author.Tests.{clash}
 use Rattle.std.specs.List.{between}
-use Rattle.std.proofs.lemmas.List.{length-append, length-drop, length-take-le, drop_at, drop-drop, take-append-drop}
+use Rattle.std.proofs.lemmas.List.{length-append, length-drop, length-take-le, drop_at}
 use Rattle.std.proofs.lemmas.Bool.{and_parts, and_from}
 use Rattle.language.specs.Basics.{pick, every}
-use Rattle.language.specs.Bytes.{Name, eight, with_length, all_bytes}
+use Rattle.language.specs.Bytes.{eight, with_length, all_bytes}
 use Rattle.language.specs.Fits.{a_name}
 use Rattle.language.specs.Reading.{found, number_at, name_end}
 use Rattle.language.proofs.ListFacts.{every_drop}
 use Rattle.language.proofs.ReadingFacts.{found_some, pick_some}
 use Rattle.language.proofs.StandsFacts.{Stands, stands-first, stands-second, stands_join, stands-taken, taken-stands, length-eight, number_stands, NumberThere, number_there}
-use Rattle.language.proofs.HeadFacts.{length_with, name-stands, name_bytes, NameThere, name_there}
+use Rattle.language.proofs.HeadFacts.{length_with, name-stands, name_bytes, name_there}
 use Rattle.model.specs.Command.{place_spelled, a_place}
 use Rattle.model.specs.Reading.{Field, field, name_in, index_in, place_of, place_in}
 

@@ -1,10 +1,10 @@
 -- A machine whose memories hold what stands in the model does what the model does, whatever is said. Assumes nothing.
-use Rattle.std.proofs.Common.{◌≡◌, ℕ, Bool, List, [], ◌∷◌, refl}
+use Rattle.std.proofs.Common.{ℕ, Bool, List, [], ◌∷◌, refl}
 use Rattle.model.specs.Command.{Command}
 use Rattle.model.specs.State.{Plain}
 use Rattle.model.specs.Engine.{said, Engine, runs, Steady}
 use Rattle.model.specs.Whole.{Right, Means, Whole}
-use Rattle.model.specs.Simulation.{Answered, Simulates}
+use Rattle.model.specs.Simulation.{Simulates}
 
 module _ (known : Command → Bool) (e : Engine) (Holds : List ℕ → Plain → Type 0) (s : Simulates known e Holds) where
   pub right_from : (ts : List (List ℕ)) (m : List ℕ) (w : Plain) → Holds m w → Right known e m w ts

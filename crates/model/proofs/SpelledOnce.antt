@@ -1,9 +1,9 @@
 -- No two commands that fit are spelled alike: a text asks for one thing, and that stands for one command. Assumes nothing.
-use Rattle.std.proofs.Common.{◌≡◌, ℕ, true, List, Some, sym, refl, ap, ◌∙◌, subst}
+use Rattle.std.proofs.Common.{◌≡◌, sym, refl, ap, ◌∙◌, subst}
 use Rattle.language.proofs.Once.{program_once}
-use Rattle.model.specs.Command.{Command, load, spelled, fits}
+use Rattle.model.specs.Command.{Command, load, spelled}
 use Rattle.model.specs.Whole.{Said}
-use Rattle.model.specs.Reading.{Ask, loading, asking, Asks, asked}
+use Rattle.model.specs.Reading.{Ask, loading, asking, Asks}
 use Rattle.model.specs.Statements.{SpelledOnce}
 use Rattle.model.proofs.AskedFacts.{said-asked}
 

@@ -1,7 +1,6 @@
 -- Machines that are told a command and do one act a step. Assumes nothing: these are definitions.
 use Rattle.std.specs.Prelude.{◌≡◌, ℕ, zero, suc, ◌≤◌, Bool, true, ◌&&◌, ltb, List, [], ◌∷◌, ◌++◌, length, nat_eq, nat_le, nat_lt}
 use Rattle.language.specs.Basics.{pick, every}
-use Rattle.language.specs.Meaning.{step}
 
 pub data Event : Type 0 where
   said : List ℕ → Event

@@ -3,7 +3,7 @@
 use Rattle.std.specs.Prelude.{ℕ, Bool, List, []}
 use Rattle.model.specs.Command.{Command}
 use Rattle.model.specs.State.{Plain, at_first}
-use Rattle.model.specs.Engine.{said, Engine, Ran, runs}
+use Rattle.model.specs.Engine.{said, Engine, runs}
 use Rattle.model.specs.Whole.{May}
 
 -- a text ends as the model has it, and what stands then is held

@@ -7,7 +7,6 @@ use Rattle.language.specs.Meaning.{fun_of}
 use Rattle.language.specs.Places.{at_place, put_at}
 use Rattle.language.specs.Names.{distinct}
 use Rattle.language.specs.Spelling.{program_spelled}
-use Rattle.model.specs.Engine.{next, shows}
 
 pub record Plain : Type 0 where
   pub now : Program

@@ -1,7 +1,7 @@
 -- A frame that is put is there, the older ones stay, and nothing but the frames changes. Assumes nothing.
-use Rattle.std.proofs.Common.{◌≡◌, ℕ, zero, suc, ◌+◌, ◌*◌, ◌<◌, ◌≤◌, Bool, true, false, List, [], ◌∷◌, length, get_or, take, drop, set, sym, refl, ap, ◌∙◌, ap₂, arith}
+use Rattle.std.proofs.Common.{◌≡◌, ℕ, zero, suc, ◌+◌, ◌<◌, ◌≤◌, Bool, true, false, List, ◌∷◌, length, get_or, take, drop, set, sym, refl, ap, ◌∙◌, ap₂, arith}
 use Rattle.std.proofs.lemmas.List.{length-set, take-set-le, drop-set-lt, get_or-set_same, get_or-set_other, get_or-take}
-use Rattle.language.specs.Uses.{Frame, frame, Holder, holder, Scope, scope}
+use Rattle.language.specs.Uses.{Frame, frame, holder, scope}
 use Rattle.memory.specs.Layout.{memory_words, frames_at, list_at}
 use Rattle.scope.specs.Frames.{frame_from, flag, flagged, frame_at, frame_put, stacked}
 

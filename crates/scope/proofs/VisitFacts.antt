@@ -1,5 +1,5 @@
 -- One visit after the other: what is to come from here was to come from the start, and only frames and list change. Assumes nothing.
-use Rattle.std.proofs.Common.{◌≡◌, ℕ, zero, suc, ◌+◌, ◌-◌, ◌<◌, ◌≤◌, Bool, true, false, List, [], ◌∷◌, length, take, drop, set, Some, None, Option, sym, refl, ap, ◌∙◌, subst, ap₂, arith}
+use Rattle.std.proofs.Common.{◌≡◌, ℕ, suc, ◌+◌, ◌-◌, ◌<◌, ◌≤◌, Bool, true, false, List, length, take, drop, set, Some, None, Option, sym, refl, ap, ◌∙◌, subst, ap₂, arith}
 use Rattle.std.proofs.lemmas.List.{take-take, drop-drop, take-set-le, drop-set-lt, drop-set, length-set}
 use Rattle.expr.specs.declared.token.Kind.{Kind}
 use Rattle.expr.specs.Node.{holder_told}
@@ -8,16 +8,16 @@ use Rattle.expr.specs.Token.{kind_told, kind_arity, spelled_in}
 use Rattle.expr.proofs.TokenFacts.{arity-told}
 use Rattle.language.specs.Bytes.{Name}
 use Rattle.language.specs.Heads.{arity}
-use Rattle.language.specs.Reading.{found, Token, token}
-use Rattle.language.specs.Uses.{Scope, scope, Walk, walk, walk_from, use_listed, after_head, uses_from, uses_of}
+use Rattle.language.specs.Reading.{found, token}
+use Rattle.language.specs.Uses.{Scope, scope, walk, walk_from, use_listed, after_head, uses_from, uses_of}
 use Rattle.memory.specs.Layout.{memory_words, memory_fits, build_at, frames_at, list_at, reserve_at, held, listed}
-use Rattle.memory.proofs.LayoutFacts.{memory-long, front-held, front_fits}
+use Rattle.memory.proofs.LayoutFacts.{front-held, front_fits}
 use Rattle.scope.specs.declared.uses.Walk as code
 use Rattle.scope.specs.declared.uses.Visit.{Visit}
 use Rattle.scope.specs.declared.uses.Visit.TheVariants.{On, Done, Stopped}
 use Rattle.scope.specs.Scopes.{scope_told}
 use Rattle.scope.specs.Frames.{stacked}
-use Rattle.scope.specs.Walks.{walk_told, Sight, sight, sight_of, Framed, led_to, VisitFits, Goes_on, Kept, visited, VisitFew, Visits}
+use Rattle.scope.specs.Walks.{walk_told, sight, sight_of, Framed, led_to, VisitFits, Goes_on, Kept, visited, VisitFew, Visits}
 use Rattle.scope.proofs.FrameFacts.{stacked-behind}
 use Rattle.scope.proofs.WalkFacts.{after_sight, uses-turn}
 

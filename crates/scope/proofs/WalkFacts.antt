@@ -1,5 +1,5 @@
 -- Visits of a walk, one by one: what is seen, listed, and comes next. Assumes nothing.
-use Rattle.std.proofs.Common.{◌≡◌, ℕ, zero, suc, ◌+◌, ◌-◌, ◌*◌, ◌<◌, ◌≤◌, Bool, true, false, ltb, List, [], ◌∷◌, ◌++◌, length, get_or, take, drop, set, Some, None, Option, sym, refl, ap, ◌∙◌, ap₂, arith, le-ltb, lt-ltb}
+use Rattle.std.proofs.Common.{◌≡◌, ℕ, zero, suc, ◌+◌, ◌-◌, ◌<◌, ◌≤◌, Bool, true, List, [], ◌∷◌, ◌++◌, length, take, drop, set, Some, None, Option, sym, refl, ap, ◌∙◌, ap₂, arith, le-ltb, lt-ltb}
 use Rattle.std.proofs.lemmas.List.{length-take-le, length-drop, drop-set-add, take_more_set}
 use Rattle.expr.specs.declared.token.Kind.{Kind}
 use Rattle.expr.specs.declared.token.Kind.TheVariants.{Number, Name, Binary, Call, Let, If, Tell}
@@ -9,7 +9,7 @@ use Rattle.language.specs.Basics.{pick}
 use Rattle.language.specs.Bytes as bytes
 use Rattle.language.specs.Heads.{arity}
 use Rattle.language.specs.Reading.{found, Token, head_at}
-use Rattle.language.specs.Uses.{Frame, frame, Holder, holder, Scope, scope, Walk, walk, use_listed, head_changes, scope_in, part_taken, after_leaf, after_head, uses_from}
+use Rattle.language.specs.Uses.{Frame, frame, holder, Scope, Walk, walk, use_listed, head_changes, scope_in, part_taken, after_leaf, after_head, uses_from}
 use Rattle.memory.specs.Layout.{memory_words, list_at, listed}
 use Rattle.scope.specs.Scopes.{scope_told, KindLies}
 use Rattle.scope.specs.Frames.{frame_at, frame_put, stacked}

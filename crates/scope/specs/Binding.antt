@@ -1,5 +1,5 @@
 -- What a binder that was found stands for. Assumes nothing: these are definitions.
-use Rattle.std.specs.Prelude.{ℕ, ◌-◌, ◌<◌, ◌≤◌, List, Some, None, Option}
+use Rattle.std.specs.Prelude.{ℕ, ◌-◌, ◌≤◌, List, Some, None, Option}
 use Rattle.expr.specs.Token.{spelled_in}
 use Rattle.language.specs.Binders.{Binder, binder}
 use Rattle.scope.specs.declared.binder.Binder as code

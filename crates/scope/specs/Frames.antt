@@ -1,5 +1,5 @@
 -- Frames in the machine's memory, five words for each. Assumes nothing: these are definitions.
-use Rattle.std.specs.Prelude.{◌≡◌, ℕ, zero, suc, ◌+◌, ◌*◌, Bool, not, List, [], ◌∷◌, length, set, ◌==◌, slice_index, slice_set}
+use Rattle.std.specs.Prelude.{ℕ, zero, suc, ◌+◌, ◌*◌, Bool, not, List, [], ◌∷◌, set, ◌==◌, slice_index, slice_set}
 use Rattle.language.specs.Basics.{pick}
 use Rattle.language.specs.Uses.{Frame, frame, holder, scope}
 use Rattle.memory.specs.Layout.{frames_at}

@@ -1,5 +1,5 @@
 -- What scopes and renamings of the code stand for. Assumes nothing: these are definitions.
-use Rattle.std.specs.Prelude.{ℕ, ◌≤◌, Bool, true, false, List, length, Some, None, Option}
+use Rattle.std.specs.Prelude.{ℕ, ◌≤◌, Bool, true, false, Some, None, Option}
 use Rattle.expr.specs.declared.token.Kind.{Kind}
 use Rattle.expr.specs.declared.token.Kind.TheVariants.{Number, Name, Binary, Call, Let, If, Tell}
 use Rattle.language.specs.Uses.{Scope, scope}

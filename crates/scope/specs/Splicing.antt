@@ -1,5 +1,5 @@
 -- Writing the program with a new name, one name after the other. Assumes nothing: these are definitions.
-use Rattle.std.specs.Prelude.{◌≡◌, ℕ, ◌+◌, ◌-◌, ◌<◌, ◌≤◌, List, [], ◌++◌, length, Some, None, Option}
+use Rattle.std.specs.Prelude.{◌≡◌, ℕ, ◌+◌, ◌-◌, ◌<◌, List, [], ◌++◌, length, Some, None, Option}
 use Rattle.std.specs.List.{between}
 use Rattle.expr.specs.declared.token.Span.{Span}
 use Rattle.expr.specs.Look.{smaller}

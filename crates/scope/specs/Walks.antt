@@ -1,12 +1,12 @@
 -- A walk of the code, and what one visit of a node makes of it. Assumes nothing: these are definitions.
-use Rattle.std.specs.Prelude.{◌≡◌, ℕ, suc, ◌+◌, ◌<◌, ◌≤◌, Bool, true, false, List, ◌∷◌, length, take, drop, Some, None, Option, nat_lt}
+use Rattle.std.specs.Prelude.{◌≡◌, ℕ, suc, ◌<◌, ◌≤◌, Bool, List, ◌∷◌, length, take, drop, Some, None, Option, nat_lt}
 use Rattle.expr.specs.Node.{holder_told}
 use Rattle.expr.specs.Token.{kind_told}
 use Rattle.language.specs.Basics.{pick}
 use Rattle.language.specs.Bytes.{Name}
 use Rattle.language.specs.Reading.{found, Token, token, head_at}
 use Rattle.language.specs.Uses.{Scope, frame, Walk, walk, Holder, holder, most_frames, scope_in, head_changes, uses_from}
-use Rattle.memory.specs.Layout.{memory_words, frames_at, list_at, reserve_at, listed}
+use Rattle.memory.specs.Layout.{frames_at, list_at, reserve_at, listed}
 use Rattle.scope.specs.declared.uses.Walk as code
 use Rattle.scope.specs.declared.uses.Seen as seen-code
 use Rattle.scope.specs.declared.uses.Visit.{Visit}

@@ -1,5 +1,5 @@
 -- One part after the other.
-use Rattle.std.proofs.Common.{◌≡◌, ℕ, ltb, List, length, None, sym, ap, ◌∙◌, ap₂, arith, ltb-false, ltb-true}
+use Rattle.std.proofs.Common.{◌≡◌, ℕ, ltb, List, length, None, sym, ◌∙◌, ap₂, arith, ltb-false, ltb-true}
 use Rattle.language.specs.Basics.{pick}
 use Rattle.language.specs.Heads.{arity}
 use Rattle.language.specs.Reading.{ends}

@@ -1,5 +1,5 @@
 -- Each way out and each turn is one step of `ends`.
-use Rattle.std.proofs.Common.{◌≡◌, ℕ, ◌+◌, ◌-◌, ◌<◌, ◌≤◌, length, sym, ap, ◌∙◌, arith}
+use Rattle.std.proofs.Common.{◌-◌, sym, ◌∙◌, arith}
 use Rattle.language.proofs.ReadingFacts.{ends-done, ends_short, ends_none, ends_out, ends_more}
 use Rattle.expr.proofs.TokenFacts.{arity-told}
 use Rattle.expr.proofs.skip.skip_many.Goals as goal

@@ -1,6 +1,5 @@
 -- What was found in the current program is the row, or the answer ends.
 use Rattle.std.proofs.Common.{arith}
-use mir.Facts.{Fits-lt}
 use Rattle.machine.proofs.AnswerFacts.{told_as, names-end, names-cut, names_lost, names-row}
 use Rattle.memory.proofs.LayoutFacts.{held_short}
 use Rattle.machine.proofs.answers.show_name.Goals as goal

@@ -1,4 +1,3 @@
-use Rattle.std.proofs.Common.{refl, ◌∙◌}
 use Rattle.machine.specs.History.{gone_back}
 use Rattle.machine.proofs.AnswerFacts.{undo_none, undo-done}
 use Rattle.machine.proofs.history.undo.Goals as goal

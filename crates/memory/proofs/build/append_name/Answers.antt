@@ -1,5 +1,5 @@
 -- The length, and then the bytes.
-use Rattle.std.proofs.Common.{length, Some, None, arith}
+use Rattle.std.proofs.Common.{length, None, arith}
 use Rattle.language.specs.Bytes.{eight}
 use Rattle.memory.proofs.BuildFacts.{appended_to, appends_one, appends_then, appends_stop}
 use Rattle.memory.proofs.build.append_name.Goals as goal

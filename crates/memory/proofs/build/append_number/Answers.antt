@@ -1,4 +1,4 @@
-use Rattle.std.proofs.Common.{◌≡◌, sym, ◌∙◌, subst}
+use Rattle.std.proofs.Common.{sym, ◌∙◌, subst}
 use Rattle.language.proofs.PackedFacts.{eight_is}
 use Rattle.memory.specs.Build.{Appended}
 use Rattle.memory.proofs.build.append_number.Goals as goal

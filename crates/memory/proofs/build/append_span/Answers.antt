@@ -1,7 +1,7 @@
 -- One byte after the other.
-use Rattle.std.proofs.Common.{◌≡◌, ℕ, ◌+◌, ◌-◌, true, length, get_or, sym, refl, ap, ◌∙◌, arith, leb-false, leb-true}
+use Rattle.std.proofs.Common.{◌+◌, get_or, sym, refl, ap, ◌∙◌, arith, leb-false, leb-true}
 use Rattle.std.proofs.lemmas.List.Edits.{length-between, get_or-between}
-use Rattle.memory.specs.Layout.{memory_fits, held}
+use Rattle.memory.specs.Layout.{held}
 use Rattle.memory.proofs.LayoutFacts.{memory-long, front-held, front_fits}
 use Rattle.memory.proofs.BuildFacts.{going_from, going_more, going_all}
 use Rattle.memory.proofs.build.append_span.Goals as goal

@@ -1,11 +1,10 @@
 -- One zero after the other.
-use Rattle.std.proofs.Common.{◌≡◌, ℕ, ◌-◌, length, replicate, sym, refl, ap, ◌∙◌, arith, ne_eqb}
+use Rattle.std.proofs.Common.{ℕ, ◌-◌, replicate, sym, refl, ap, ◌∙◌, arith, ne_eqb}
 use lib.ListN.{length-replicate}
 use Rattle.std.proofs.lemmas.List.{get_or-replicate}
 use Rattle.language.specs.Basics.{pick}
 use Rattle.memory.specs.Build.{Writing, writing, pushed_all}
 use Rattle.memory.proofs.BuildFacts.{going_from, going_more, going_all}
-use Rattle.memory.proofs.BuildLaws.{built_law}
 use Rattle.memory.proofs.build.finish.Goals as goal
 
 pub loop-k-init : goal.loop-k-init

@@ -1,5 +1,5 @@
 -- One name after the other.
-use Rattle.std.proofs.Common.{◌≡◌, ◌+◌, ◌-◌, sym, refl, ap, ◌∙◌, arith}
+use Rattle.std.proofs.Common.{◌+◌, ◌-◌, sym, ◌∙◌, arith}
 use Rattle.scope.proofs.OwnFacts.{all-unseen, own_nameless, own_countless, unseen_over, unseen-cut, unseen_itself, unseen_is, unseen-next}
 use Rattle.scope.proofs.binder.other_own_is.Goals as goal
 use Rattle.scope.proofs.binder.other_own_is.Goals.{else-k-from-via-then-k-from+else-is_name, else-k-from-via-else-k-from}

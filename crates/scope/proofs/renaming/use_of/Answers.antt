@@ -1,4 +1,4 @@
-use Rattle.std.proofs.Common.{◌≡◌, true, false, not, ◌&&◌, Some, None, ◌∙◌, ap₂}
+use Rattle.std.proofs.Common.{true, false, not, ◌&&◌, Some, None, ◌∙◌, ap₂}
 use Rattle.language.specs.Basics.{pick}
 use Rattle.language.specs.Uses.{use_changes}
 use Rattle.scope.proofs.renaming.use_of.Goals as goal

@@ -1,13 +1,12 @@
 -- What comes before the name, and the new name.
-use Rattle.std.proofs.Common.{◌≡◌, ℕ, ◌+◌, ◌-◌, ◌≤◌, length, Some, None, sym, ap, ◌∙◌, arith}
+use Rattle.std.proofs.Common.{length, Some, None, ap, ◌∙◌, arith}
 use Rattle.std.specs.List.{between}
 use Rattle.language.specs.Bytes.{with_length}
-use Rattle.expr.specs.Look.{smaller}
 use Rattle.expr.specs.declared.token.Span.{Span}
 use Rattle.memory.specs.Build.{Appends}
 use Rattle.memory.specs.Layout.{held}
 use Rattle.memory.proofs.LayoutFacts.{memory-long, held-long}
-use Rattle.memory.proofs.BuildFacts.{AppendedTo, appended_to, appends_then, appends_stop}
+use Rattle.memory.proofs.BuildFacts.{appended_to, appends_then, appends_stop}
 use Rattle.scope.specs.Splicing.{clipped}
 use Rattle.scope.proofs.SpliceFacts.{clip_appends}
 use Rattle.scope.proofs.replace.splice_name.Goals as goal

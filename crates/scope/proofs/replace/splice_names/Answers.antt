@@ -1,5 +1,5 @@
 -- One name after the other.
-use Rattle.std.proofs.Common.{◌≡◌, ◌+◌, length, drop, sym, ap, ◌∙◌, subst, arith}
+use Rattle.std.proofs.Common.{◌+◌, length, drop, ap, arith}
 use Rattle.std.proofs.lemmas.List.{drop_all, length-take}
 use Rattle.memory.specs.Layout.{listed}
 use Rattle.memory.proofs.LayoutFacts.{memory-long}

@@ -1,12 +1,12 @@
 -- Zeros first, then name after name, and the rest of the program.
-use Rattle.std.proofs.Common.{◌≡◌, ◌<◌, ◌≤◌, [], length, Some, None, sym, refl, ap, ◌∙◌, arith}
+use Rattle.std.proofs.Common.{◌<◌, [], length, Some, None, refl, ap, ◌∙◌, arith}
 use Rattle.expr.specs.Token.{spelled_in}
 use Rattle.language.specs.Splice.{names_replaced}
 use Rattle.memory.specs.declared.build.Build.{Build}
 use Rattle.memory.specs.Build.{Appends}
 use Rattle.memory.specs.Layout.{held, listed}
-use Rattle.memory.proofs.LayoutFacts.{memory-long, held-long}
-use Rattle.memory.proofs.BuildFacts.{AppendedTo, appended_to}
+use Rattle.memory.proofs.LayoutFacts.{memory-long}
+use Rattle.memory.proofs.BuildFacts.{appended_to}
 use Rattle.scope.specs.Splicing.{clipped}
 use Rattle.scope.proofs.SpliceFacts.{beside, replaced_stop, last_appends, replaced_full, replaced_all, splice_far, beside_held, beside_fits}
 use Rattle.scope.proofs.replace.write_renamed.Goals as goal

@@ -1,4 +1,4 @@
-use Rattle.std.proofs.Common.{◌≡◌, sym, refl, ◌∙◌, arith}
+use Rattle.std.proofs.Common.{sym, ◌∙◌, arith}
 use Rattle.scope.proofs.WalkFacts.{head_many}
 use Rattle.scope.proofs.uses.advance.Goals as goal
 

@@ -1,4 +1,4 @@
-use Rattle.std.proofs.Common.{◌≡◌, ◌-◌, false, length, None, sym, refl, ap, ◌∙◌, ap₂, arith}
+use Rattle.std.proofs.Common.{◌-◌, false, length, None, refl, ap, ◌∙◌, arith}
 use Rattle.memory.proofs.LayoutFacts.{memory-long}
 use Rattle.scope.proofs.VisitFacts.{kept_then, kept-first, kept-held, kept-fits, uses_begin}
 use Rattle.scope.proofs.uses.list_uses.Goals as goal

@@ -1,4 +1,4 @@
-use Rattle.std.proofs.Common.{◌≡◌, sym, refl, subst, arith}
+use Rattle.std.proofs.Common.{sym, refl, subst, arith}
 use Rattle.scope.specs.Walks.{Framed}
 use Rattle.scope.proofs.WalkFacts.{framed_none, framed_put, opened_full, opened_room}
 use Rattle.scope.proofs.uses.open_frame.Goals as goal

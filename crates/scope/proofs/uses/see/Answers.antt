@@ -1,4 +1,4 @@
-use Rattle.std.proofs.Common.{◌≡◌, length, sym, ap, ◌∙◌, arith, rules}
+use Rattle.std.proofs.Common.{length, ap, arith, rules}
 use Rattle.memory.proofs.LayoutFacts.{held-long}
 use Rattle.scope.proofs.WalkFacts.{kind_lies}
 use Rattle.scope.proofs.uses.see.Goals as goal

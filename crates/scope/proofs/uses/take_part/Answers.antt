@@ -1,4 +1,4 @@
-use Rattle.std.proofs.Common.{◌≡◌, sym, subst, arith}
+use Rattle.std.proofs.Common.{sym, subst, arith}
 use Rattle.scope.specs.Frames.{frame_told}
 use Rattle.scope.specs.Walks.{Framed}
 use Rattle.scope.proofs.WalkFacts.{framed_put, part_more}

@@ -1,5 +1,5 @@
 -- One node after the other.
-use Rattle.std.proofs.Common.{◌≡◌, length, sym, ap, ◌∙◌, arith}
+use Rattle.std.proofs.Common.{length, sym, ap, arith}
 use Rattle.scope.proofs.VisitFacts.{walked_none, walked_kept, walked_to, walked_more, walked_out, kept-held, kept-fits}
 use Rattle.scope.proofs.uses.walk_through.Goals as goal
 

@@ -1,5 +1,5 @@
 -- One byte more is blank, or the line ends behind it.
-use Rattle.std.proofs.Common.{◌≡◌, ◌-◌, length, take, sym, ap, arith}
+use Rattle.std.proofs.Common.{◌≡◌, length, take, sym, ap, arith}
 use Rattle.std.specs.List.{suffix_len}
 use Rattle.std.proofs.lemmas.List.{take_all}
 use Rattle.std.proofs.lemmas.List.Sums.{suffix_len-take_yes, suffix_len-take_no}

@@ -1,5 +1,5 @@
 -- One name after the other.
-use Rattle.std.proofs.Common.{◌+◌, ◌-◌, sym, ap, ◌∙◌, arith}
+use Rattle.std.proofs.Common.{◌+◌, ◌-◌, sym, ◌∙◌, arith}
 use Rattle.language.proofs.ContentsFacts.{among_none, among_cut, among_here, among_more}
 use Rattle.wire.proofs.program.is_among.Goals as goal
 

@@ -1,5 +1,5 @@
 -- One name after the other: it is none of those after it.
-use Rattle.std.proofs.Common.{◌+◌, ◌-◌, sym, ap, ◌∙◌, arith}
+use Rattle.std.proofs.Common.{◌+◌, ◌-◌, sym, ◌∙◌, arith}
 use Rattle.language.proofs.ContentsFacts.{differ_none, differ_cut, differ_not, differ_more}
 use Rattle.wire.proofs.program.names_differ.Goals as goal
 

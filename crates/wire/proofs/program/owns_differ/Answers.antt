@@ -1,5 +1,5 @@
 -- One function after the other.
-use Rattle.std.proofs.Common.{◌+◌, ◌-◌, sym, ap, ◌∙◌, arith}
+use Rattle.std.proofs.Common.{◌+◌, ◌-◌, sym, ◌∙◌, arith}
 use Rattle.language.proofs.ContentsFacts.{owns_none, owns_not, owns_cut, owns_more}
 use Rattle.wire.proofs.program.owns_differ.Goals as goal
 

@@ -1,5 +1,5 @@
 -- The smaller of what is asked and what there is.
-use Rattle.std.proofs.Common.{sym, ◌∙◌, arith}
+use Rattle.std.proofs.Common.{arith}
 use Rattle.language.proofs.PackedFacts.{front_length}
 use Rattle.expr.proofs.packed.PackedSource.len.Goals as goal
 
