@@ -1,7 +1,7 @@
 -- What holds of an expression if it holds of its parts holds of every expression; and every expression is spelled with nine bytes at least.
 -- Assumes nothing.
 use Rattle.std.proofs.Common.{◌≤◌, ◌∷◌, ◌++◌, length, arith}
-use Rattle.std.specs.List.{AllByRecursion as All}
+use Rattle.std.specs.List.{AllByRecursion}
 use Rattle.std.proofs.lemmas.List.{length-append}
 use Rattle.language.specs.Bytes.{with_length}
 use Rattle.language.specs.Expr.{Expr, num, var, bin, call, bind, choice, tell, Exprs, no_exprs, expr_and, exprs_in, count_exprs, parts}
@@ -12,7 +12,7 @@ use Rattle.language.proofs.HeadFacts.{length_with}
 mutual
   unfolding parts
 
-  pub by_parts : (P : Expr → Type 0) → ((e : Expr) → All P (parts e) → P e) → (e : Expr) → P e
+  pub by_parts : (P : Expr → Type 0) → ((e : Expr) → AllByRecursion P (parts e) → P e) → (e : Expr) → P e
   by_parts P step (num n) = step (num n) tt
   by_parts P step (var x) = step (var x) tt
   by_parts P step (bin k a b) = step (bin k a b) (by_parts P step a, (by_parts P step b, tt))
@@ -21,7 +21,7 @@ mutual
   by_parts P step (choice c a b) = step (choice c a b) (by_parts P step c, (by_parts P step a, (by_parts P step b, tt)))
   by_parts P step (tell a) = step (tell a) (by_parts P step a, tt)
 
-  all_by_parts : (P : Expr → Type 0) → ((e : Expr) → All P (parts e) → P e) → (es : Exprs) → All P (exprs_in es)
+  all_by_parts : (P : Expr → Type 0) → ((e : Expr) → AllByRecursion P (parts e) → P e) → (es : Exprs) → AllByRecursion P (exprs_in es)
   all_by_parts P step no_exprs = tt
   all_by_parts P step (expr_and e es) = (by_parts P step e, all_by_parts P step es)
 

@@ -1,6 +1,6 @@
 -- Where the names of uses stand, by an expression's head and its parts; each of them takes nine bytes at least. Assumes nothing.
 use Rattle.std.proofs.Common.{◌≡◌, ℕ, ◌+◌, ◌*◌, ◌≤◌, Bool, true, false, not, ◌&&◌, eqb, List, [], ◌∷◌, ◌++◌, length, sym, refl, ap, ap₂, arith}
-use Rattle.std.specs.List.{AllByRecursion as All}
+use Rattle.std.specs.List.{AllByRecursion}
 use Rattle.std.proofs.lemmas.List.{append-nil, length-append}
 use Rattle.language.specs.Basics.{pick, or, same, flat}
 use Rattle.language.specs.Bytes.{Name, with_length}
@@ -82,7 +82,7 @@ head_nine x h i (h_bind z) = omega arith
 head_nine x h i h_choice = omega arith
 head_nine x h i h_tell = omega arith
 
-parts_nine : (x : Name) (es : List Expr) → All (Nine x) es → (g : ℕ → Bool) (p i : ℕ) → 9 * length (parts_uses x g p i es) ≤ length (flat expr_spelled es)
+parts_nine : (x : Name) (es : List Expr) → AllByRecursion (Nine x) es → (g : ℕ → Bool) (p i : ℕ) → 9 * length (parts_uses x g p i es) ≤ length (flat expr_spelled es)
 parts_nine x [] ps g p i = omega arith
 parts_nine x (e ∷ es) ps g p i =
     omega (
@@ -96,7 +96,7 @@ parts_nine x (e ∷ es) ps g p i =
 pub uses_nine : (x : Name) (e : Expr) (h : Bool) (i : ℕ) → 9 * length (name_uses x h i e) ≤ length (expr_spelled e)
 uses_nine x = by_parts (Nine x) node_nine
   where
-    node_nine : (e : Expr) → All (Nine x) (parts e) → Nine x e
+    node_nine : (e : Expr) → AllByRecursion (Nine x) (parts e) → Nine x e
     node_nine e ps h i =
         omega (
           arith,

@@ -1,7 +1,7 @@
 -- The bytes with the new name at each use that changes are those of the renamed expression. By induction over the expression: if what comes of the
 -- bytes after it is known, so is what comes of those from its start. Assumes nothing.
 use Rattle.std.proofs.Common.{◌≡◌, ℕ, suc, ◌+◌, Bool, true, false, not, ◌&&◌, eqb, List, [], ◌∷◌, ◌++◌, length, drop, sym, refl, ap, ◌∙◌, subst, ap₂, arith}
-use Rattle.std.specs.List.{AllByRecursion as All}
+use Rattle.std.specs.List.{AllByRecursion}
 use Rattle.std.proofs.lemmas.List.{append_assoc, append-nil, length-append, drop_at}
 use Rattle.std.proofs.lemmas.Bool.{and_parts}
 use Rattle.language.specs.Basics.{pick, same, flat}
@@ -108,7 +108,7 @@ module _ (bs : List ℕ) (x y : Name) (h : Bool) (i : ℕ) (ks out : List ℕ) w
   head_spliced h_choice s r = head_stays h_choice s r
   head_spliced h_tell s r = head_stays h_tell s r
 
-parts_spliced : (bs : List ℕ) (x y : Name) (es : List Expr) → All (Spliced bs x y) es → (g : ℕ → Bool) (p i : ℕ) (ks out : List ℕ) →
+parts_spliced : (bs : List ℕ) (x y : Name) (es : List Expr) → AllByRecursion (Spliced bs x y) es → (g : ℕ → Bool) (p i : ℕ) (ks out : List ℕ) →
     Stands bs i (flat expr_spelled es) → Renames bs x y ks (i + length (flat expr_spelled es)) out →
     Renames bs x y (parts_uses x g p i es ++ ks) i (flat expr_spelled (parts_under x y g p es) ++ out)
 parts_spliced bs x y [] ps g p i ks out s r = subst (λ j. Renames bs x y ks j out) (omega arith) r
@@ -120,7 +120,7 @@ parts_spliced bs x y (e ∷ es) ps g p i ks out s r =
     (parts_spliced bs x y es ps.1 g (p + 1) (i + length (expr_spelled e)) ks out (stands-second bs i (expr_spelled e) (flat expr_spelled es) s)
     (subst (λ j. Renames bs x y ks j out) (omega (arith, length-append (expr_spelled e) (flat expr_spelled es))) r)))
 
-node_spliced : (bs : List ℕ) (x y : Name) (e : Expr) → All (Spliced bs x y) (parts e) → Spliced bs x y e
+node_spliced : (bs : List ℕ) (x y : Name) (e : Expr) → AllByRecursion (Spliced bs x y) (parts e) → Spliced bs x y e
 node_spliced bs x y e ps h i ks out s r =
     renames_same bs x y (sym (ap (λ l. l ++ ks) (uses_node x h i e) ∙ append_assoc (head_uses x h i u) uses ks))
     (sym (ap (λ l. l ++ out) (under-spelled x y h e) ∙ append_assoc (head_spelled (head_under x y h u)) (flat expr_spelled made) out))

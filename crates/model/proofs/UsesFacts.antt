@@ -3,7 +3,7 @@
 -- frame nine bytes after the expression. Assumes nothing.
 use Rattle.std.proofs.Common.{◌≡◌, ℕ, zero, suc, ◌+◌, ◌*◌, ◌<◌, ◌≤◌, Bool, true, false, not, ◌&&◌, eqb, ltb, List, [], ◌∷◌, ◌++◌, length, Some, None, Option, sym, refl, ap, ◌∙◌, subst, ap₂, zero-add, arith, ltb-true, le-ltb, lt-ltb}
 use mathlib.Core.Bool.{and-true}
-use Rattle.std.specs.List.{AllByRecursion as All}
+use Rattle.std.specs.List.{AllByRecursion}
 use Rattle.std.proofs.lemmas.List.{append_assoc, append-nil, length-append}
 use Rattle.std.proofs.lemmas.Bool.{and_parts}
 use Rattle.language.specs.Basics.{pick, every, flat, same}
@@ -165,7 +165,7 @@ frames-long false f fs es h = omega arith
 
 -- the parts of the node at i₀, whose head is read there
 module _ (bs : List ℕ) (x y : Name) (i₀ : ℕ) (t : Token) (read : head_at bs i₀ ≡ Some t) (hx hy : Bool) (fs : List Frame) (r : Option (List ℕ)) where
-  parts_go : (es : List Expr) → All (Lists bs x y) es → (p j : ℕ) (us : List ℕ) → p + length es ≡ arity t.head → every an_expr es ≡ true →
+  parts_go : (es : List Expr) → AllByRecursion (Lists bs x y) es → (p j : ℕ) (us : List ℕ) → p + length es ≡ arity t.head → every an_expr es ≡ true →
       Stands bs j (flat expr_spelled es) → 9 * length us ≤ j → j + length (flat expr_spelled es) + 9 * length fs ≤ 65536 →
       Goes bs x y fs (us ++ parts_uses x (given_in x hx t.head) p j es) (j + length (flat expr_spelled es)) r →
       Goes bs x y (frames_at i₀ (arity t.head) (scope hx hy) fs p) us j
@@ -212,7 +212,7 @@ module _ (bs : List ℕ) (x y : Name) (i₀ : ℕ) (t : Token) (read : head_at b
 
 -- an expression is passed if its parts are
 module _ (bs : List ℕ) (x y : Name) (short : length bs ≤ 65536) where
-  node_lists : (e : Expr) → All (Lists bs x y) (parts e) → Lists bs x y e
+  node_lists : (e : Expr) → AllByRecursion (Lists bs x y) (parts e) → Lists bs x y e
   node_lists e ps i h a hx hy fs us r fit s is low room go zero l =
       absurd (omega (arith, spelled_nine e, stands_in bs i (expr_spelled e) (omega (arith, spelled_nine e)) s))
   node_lists e ps i h a hx hy fs us r fit s is low room go (suc f) l =

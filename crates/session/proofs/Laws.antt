@@ -1,7 +1,7 @@
 -- What is written as hex is read back, and what text stands for bytes: inductions over pairs of digits.
 use Rattle.std.proofs.Common.{◌≡◌, ℕ, suc, ◌+◌, ◌*◌, ◌/◌, ◌%◌, ◌<◌, true, cond, List, [], ◌∷◌, map, length, is_some, Some, None, Option, refl, ap, ◌∙◌, ap₂, arith}
 use borrow.Author.Tests.{clash}
-use Rattle.std.specs.List.{AllByRecursion as All}
+use Rattle.std.specs.List.{AllByRecursion}
 use Rattle.std.proofs.lemmas.Bool.Decides.{nat_tests}
 use Rattle.session.specs.Hex.{digit, digit_value, digits_in, upper, with_some, hex_of, bytes_of, ReadBack, EvenDigits}
 
@@ -19,12 +19,12 @@ join b bs x y z p q r =
     ∙ ap (λ w. with_some w (λ rest. Some ((b / 16 * 16 + b % 16) ∷ rest))) r
     ∙ ap (λ n. Some (n ∷ bs)) whole
 
-lower_case : (bs : List ℕ) → All (λ b. b < 256) bs → bytes_of (hex_of bs) ≡ Some bs
+lower_case : (bs : List ℕ) → AllByRecursion (λ b. b < 256) bs → bytes_of (hex_of bs) ≡ Some bs
 unfolding bytes_of hex_of
 lower_case [] _ = refl
 lower_case (b ∷ bs) (h, hs) = join b bs _ _ _ (lower_back (b / 16) (omega arith)) (lower_back (b % 16) (omega arith)) (lower_case bs hs)
 
-upper_case : (bs : List ℕ) → All (λ b. b < 256) bs → bytes_of (map upper (hex_of bs)) ≡ Some bs
+upper_case : (bs : List ℕ) → AllByRecursion (λ b. b < 256) bs → bytes_of (map upper (hex_of bs)) ≡ Some bs
 unfolding bytes_of hex_of
 upper_case [] _ = refl
 upper_case (b ∷ bs) (h, hs) = join b bs _ _ _ (upper_back (b / 16) (omega arith)) (upper_back (b % 16) (omega arith)) (upper_case bs hs)

@@ -1,6 +1,6 @@
 -- Bytes as hex digits, and what text of digits stands for. Assumes nothing: these are definitions.
 use Rattle.std.specs.Prelude.{◌≡◌, ℕ, ◌+◌, ◌-◌, ◌*◌, ◌/◌, ◌%◌, ◌<◌, Bool, true, cond, ◌&&◌, List, [], ◌∷◌, ◌++◌, map, length, is_some, Some, None, Option, nat_le, nat_lt}
-use Rattle.std.specs.List.{prefix_len, AllByRecursion as All}
+use Rattle.std.specs.List.{prefix_len, AllByRecursion}
 
 -- the digit of a number below 16: 0 to 9, then a to f
 abbrev pub digit : ℕ → ℕ
@@ -45,8 +45,8 @@ upper c = cond (between 97 102 c) (c - 32) c
 
 -- What is written is read back, in either case.
 pub record ReadBack : Type 0 where
-  pub lower_case : (bs : List ℕ) → All (λ b. b < 256) bs → bytes_of (hex_of bs) ≡ Some bs
-  pub upper_case : (bs : List ℕ) → All (λ b. b < 256) bs → bytes_of (map upper (hex_of bs)) ≡ Some bs
+  pub lower_case : (bs : List ℕ) → AllByRecursion (λ b. b < 256) bs → bytes_of (hex_of bs) ≡ Some bs
+  pub upper_case : (bs : List ℕ) → AllByRecursion (λ b. b < 256) bs → bytes_of (map upper (hex_of bs)) ≡ Some bs
 
 -- Text stands for bytes exactly if it is an even number of digits.
 pub record EvenDigits : Type 0 where
