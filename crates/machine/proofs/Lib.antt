@@ -1,6 +1,7 @@
 pub mod StepFacts
 pub mod AnswerFacts
 pub mod RegionFacts
+pub mod ChangeFacts
 pub mod SizeFacts
 pub mod SteadyFacts
 pub mod HoldsFacts
