@@ -9,3 +9,4 @@ pub mod Runs
 pub mod CommandRuns
 pub mod WholeFacts
 pub mod LoadFacts
+pub mod RenameSteps
