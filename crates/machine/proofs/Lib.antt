@@ -6,6 +6,7 @@ pub mod SizeFacts
 pub mod SteadyFacts
 pub mod HoldsFacts
 pub mod Runs
+pub mod RenameRuns
 pub mod CommandRuns
 pub mod WholeFacts
 pub mod LoadFacts
