@@ -1,10 +1,13 @@
 pub mod StepFacts
 pub mod AnswerFacts
 pub mod RegionFacts
+pub mod ChangeFacts
 pub mod SizeFacts
 pub mod SteadyFacts
 pub mod HoldsFacts
 pub mod Runs
+pub mod RenameRuns
 pub mod CommandRuns
 pub mod WholeFacts
 pub mod LoadFacts
+pub mod RenameSteps

@@ -1,12 +1,10 @@
 -- Loading: names that come to numbers, tables and words that are written one after the other, and what a load tells. Assumes nothing.
-use Rattle.std.proofs.Common.{◌≡◌, ℕ, suc, ◌+◌, ◌-◌, ◌*◌, ◌/◌, ◌%◌, ◌<◌, ◌≤◌, Bool, true, false, ◌&&◌, leb, List, [], ◌∷◌, ◌++◌, length, get_or, take, drop, set, Some, None, sym, refl, ap, ◌∙◌, subst, ap₂, arith, leb-true}
+use Rattle.std.proofs.Common.{◌≡◌, ℕ, suc, ◌+◌, ◌-◌, ◌*◌, ◌/◌, ◌%◌, ◌<◌, ◌≤◌, Bool, true, false, ◌&&◌, leb, List, [], ◌∷◌, ◌++◌, length, get_or, take, drop, set, Some, None, sym, refl, ap, ◌∙◌, subst, arith, leb-true}
 use borrow.Author.Tests.{clash}
-use borrow.Rule.Slice.PartMut.{put_mid}
 use Rattle.std.specs.List.{between}
 use Rattle.std.specs.Int.Digits.{number_from_digits}
 use Rattle.std.proofs.lemmas.List.Edits.{length-between, get_or-between}
-use Rattle.std.proofs.lemmas.List.{append-nil, append_assoc, length-append, length-take, length-drop, length-replicate, take-append-drop, drop-append-le, drop-drop}
-use Rattle.std.proofs.lemmas.Slice.{take-put_mid_below, drop-put_mid}
+use Rattle.std.proofs.lemmas.List.{append-nil, length-drop}
 use Rattle.std.proofs.lemmas.Bool.{and_parts}
 use Rattle.language.specs.Basics.{pick}
 use Rattle.language.specs.Reading.{number_at, name_end, fun_end, funs_fill, is_program}
@@ -18,7 +16,6 @@ use Rattle.language.proofs.TableFacts.{hashed_more, hashed-end, table_none, tabl
 use Rattle.model.specs.Engine.{done, refused}
 use Rattle.machine.specs.declared.told.Told.{Told}
 use Rattle.machine.specs.declared.told.Told.TheVariants.{Done, No}
-use Rattle.memory.specs.Layout.{zero_words, put_words}
 use Rattle.machine.specs.History.{loaded}
 use Rattle.machine.specs.Machine.{stepped, table_cleared, load_step}
 use Rattle.machine.specs.Told.{Tells}
@@ -117,37 +114,6 @@ module _ (bs : List ℕ) (fit : is_program bs ≡ true) where
       go : (t : Bool) → leb 8 (length bs) ≡ t → funs_fill bs (pick t (Some (number_from_digits 256 (take 8 (drop 0 bs)))) None) ≡ true → 8 ≤ length bs
       go true e h = leb-true _ _ e
       go false e h = absurd (clash h)
-
--- what is left of a part, and what lies behind it
-rest_of_part : (n k : ℕ) (l : List ℕ) → n ≤ k → k ≤ length l → drop n (take k l) ++ drop k l ≡ drop n l
-rest_of_part n k l short room =
-    sym (drop-append-le n (take k l) (drop k l) (omega (arith, length-take k l))) ∙ ap (drop n) (take-append-drop k l)
-
--- words at the beginning of a part of a row are words put over the row's
-pub put_in-part : (a k n : ℕ) (m ws part : List ℕ) → a + k ≤ length m → n ≤ k → length ws ≡ n → part ≡ ws ++ drop n (take k (drop a m)) → put_mid a k m part ≡ put_words m a ws
-put_in-part a k n m ws part room short long e =
-    ap (put_mid a k m) e
-    ∙ ap (λ r. take a m ++ r) (append_assoc ws (drop n (take k (drop a m))) (drop k (drop a m)))
-    ∙ ap (λ r. take a m ++ (ws ++ r)) (rest_of_part n k (drop a m) short (omega (arith, length-drop a m)) ∙ drop-drop n a m ∙ ap (λ l. drop (a + l) m) (sym long))
-
--- a part that was written over and then made zeros is zeros put over the row
-module _ (a k : ℕ) (m part : List ℕ) (room : a + k ≤ length m) (long : length part ≡ k) where
-  part-long : length (take k (drop a (put_mid a k m part))) ≡ k
-  part-long =
-      omega (
-        arith,
-        length-take k (drop a (put_mid a k m part)),
-        length-drop a (put_mid a k m part),
-        length-append (take a m) (part ++ drop k (drop a m)),
-        length-append part (drop k (drop a m)),
-        length-take a m,
-      )
-
-  pub part_cleared : (zs : List ℕ) → zs ≡ zero_words (length (take k (drop a (put_mid a k m part)))) → put_mid a k (put_mid a k m part) zs ≡ put_words m a (zero_words k)
-  part_cleared zs e =
-      ap₂ (λ f r. f ++ (zs ++ r)) (take-put_mid_below a k m part a (omega arith) (omega arith))
-      (drop-drop k a (put_mid a k m part) ∙ drop-put_mid a k m part (a + k) (omega arith) (omega arith) long)
-      ∙ ap₂ (λ z n. take a m ++ (z ++ drop (a + n) m)) (e ∙ ap zero_words part-long) (sym (length-replicate k 0))
 
 -- a load, by whether names differ
 module _ (m bs out m₁ : List ℕ) where

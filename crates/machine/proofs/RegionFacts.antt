@@ -1,5 +1,6 @@
--- What a write to the header, going back and loading leave of each program that is held. Assumes nothing.
-use Rattle.std.proofs.Common.{◌≡◌, ℕ, zero, suc, ◌+◌, ◌-◌, ◌*◌, ◌<◌, ◌≤◌, Bool, true, false, ◌&&◌, eqb, leb, ◌≢◌, List, ◌++◌, length, get_or, take, drop, set, sym, refl, ap, ◌∙◌, subst, ap₂, arith, eq-eqb, le-leb, leb-false, leb-true}
+-- What a write to the header, going back, loading, and words put past the slots leave of each program that is held. Assumes nothing.
+use Rattle.std.proofs.Common.{◌≡◌, ℕ, zero, suc, ◌+◌, ◌-◌, ◌*◌, ◌<◌, ◌≤◌, Bool, true, false, ◌&&◌, eqb, ltb, leb, ◌≢◌, List, ◌++◌, length, get_or, take, drop, set, sym, refl, ap, ◌∙◌, subst, ap₂, arith, ltb-false, ltb-true, eq-eqb, le-leb, leb-false, leb-true}
+use lib.ListN.{length-replicate}
 use lib.Seq.{paste}
 use Rattle.std.proofs.lemmas.List.Edits.{length-paste, paste_all}
 use Rattle.std.proofs.lemmas.List.{drop-set-lt, get_or-set_same, get_or-set_other, length-set, get_or-take, get_or-drop, length-take-le, length-drop, drop_at}
@@ -10,10 +11,9 @@ use Rattle.language.specs.Packed.{packed}
 use Rattle.language.proofs.ListFacts.{every_from, every-at, take_past}
 use Rattle.language.proofs.PackedLaws.{length_packed_words, packed-flat}
 use Rattle.language.proofs.PasteFacts.{part_same, paste_low, paste_mid, paste_high}
-use Rattle.memory.specs.Layout.{memory_words, zero_words, mark, older, lengths, lengths_fit, memory_fits, slot, held, frames_at, put_words}
-use Rattle.machine.specs.History.{loaded, moved_down, gone_back}
-use Rattle.machine.specs.Machine.{table_cleared}
-use Rattle.memory.proofs.LayoutFacts.{memory-long}
+use Rattle.memory.specs.Layout.{memory_words, zero_words, mark, older, lengths, lengths_fit, memory_fits, slot, held, build_at, put_words}
+use Rattle.machine.specs.History.{loaded, moved_down, moved_up, gone_back}
+use Rattle.memory.proofs.LayoutFacts.{memory-long, older-few}
 
 -- a memory that fits, word by word
 pub record FitWords (m : List ℕ) : Type 0 where
@@ -71,104 +71,143 @@ fits_marked m v h f =
       short = λ k l. omega (arith, get_or-set_other m 0 (2 + k) v 0 (omega arith), w.short k l);
     })
 
--- lengths and slots moved down by one
-module _ (m : List ℕ) (long : length m ≡ memory_words) where
-  lengths_down : List ℕ
-  lengths_down = paste m 2 (drop 3 m) 8
-
-  long_3 : 8 ≤ length (drop 3 m)
-  long_3 = omega (arith, length-drop 3 m, long)
-
-  long_down : length lengths_down ≡ memory_words
-  unfolding lengths_down
-  long_down = length-paste m 2 (drop 3 m) 8 (omega (arith, long)) long_3 ∙ long
-
-  long_slots : 65536 ≤ length (drop 8208 lengths_down)
-  long_slots = omega (arith, length-drop 8208 lengths_down, long_down)
-
-  -- a word of the header, of which the lengths are those of the next programs
-  down_header : (i : ℕ) → i < 16 → get_or (moved_down m) i 0 ≡ get_or lengths_down i 0
-  unfolding moved_down lengths_down
-  down_header i h = paste_low lengths_down (drop 8208 lengths_down) 16 65536 (omega (arith, long_down)) long_slots i h
-
-  pub down_front : (i : ℕ) → i < 2 → get_or (moved_down m) i 0 ≡ get_or m i 0
-  unfolding lengths_down
-  down_front i h = down_header i (omega arith) ∙ paste_low m (drop 3 m) 2 8 (omega (arith, long)) long_3 i h
-
-  pub down_length : (k : ℕ) → k < 8 → get_or (moved_down m) (2 + k) 0 ≡ get_or m (2 + suc k) 0
-  unfolding lengths_down
-  down_length k h =
-      down_header (2 + k) (omega arith) ∙ paste_mid m (drop 3 m) 2 8 (omega (arith, long)) long_3 (2 + k) (omega arith) (omega arith)
-      ∙ get_or-drop 3 m (2 + k - 2) 0 ∙ ap (λ j. get_or m j 0) (let z : 3 + (2 + k - 2) ≡ 2 + suc k = omega arith in z)
-
-  pub down_last : get_or (moved_down m) 10 0 ≡ get_or m 10 0
-  unfolding lengths_down
-  down_last = down_header 10 (omega arith) ∙ paste_high m (drop 3 m) 2 8 (omega (arith, long)) long_3 10 (omega arith)
-
-  pub down_long : length (moved_down m) ≡ memory_words
-  unfolding moved_down lengths_down
-  down_long = length-paste lengths_down 16 (drop 8208 lengths_down) 65536 (omega (arith, long_down)) long_slots ∙ long_down
-
-  -- a word of the slots
-  down_word : (i : ℕ) → 16 ≤ i → i < 65552 → get_or (moved_down m) i 0 ≡ get_or m (i + 8192) 0
-  unfolding moved_down lengths_down
-  down_word i h l =
-      paste_mid lengths_down (drop 8208 lengths_down) 16 65536 (omega (arith, long_down)) long_slots i h (omega arith)
-      ∙ get_or-drop 8208 lengths_down (i - 16) 0 ∙ paste_high m (drop 3 m) 2 8 (omega (arith, long)) long_3 (8208 + (i - 16)) (omega arith)
-      ∙ ap (λ j. get_or m j 0) (let z : 8208 + (i - 16) ≡ i + 8192 = omega arith in z)
-
-  pub down_slot : (k : ℕ) → k < 8 → slot k (moved_down m) ≡ slot (suc k) m
-  down_slot k h =
-      part_same (moved_down m) m (16 + k * 8192) (16 + suc k * 8192) 8192 (omega (arith, down_long)) (omega (arith, long))
-      (λ j l. down_word (16 + k * 8192 + j) (omega arith) (omega arith) ∙ ap (λ i. get_or m i 0) (let z : 16 + k * 8192 + j + 8192 ≡ 16 + suc k * 8192 + j = omega arith in z))
-
-  pub down_held : (k : ℕ) → k < 8 → held k (moved_down m) ≡ held (suc k) m
-  down_held k h = held_same m (moved_down m) k (suc k) (down_length k h) (down_slot k h)
-
--- going back
-pub back_held : (m : List ℕ) → memory_fits m ≡ true → (k : ℕ) → k < 8 → held k (gone_back m) ≡ held (suc k) m
-unfolding gone_back
-back_held m f k h =
-    down_held (set m 1 (older m - 1)) (length-set m 1 (older m - 1) ∙ memory-long m f) k h ∙ held-set m 1 (older m - 1) (suc k) (omega arith) (omega arith)
-
-pub back_older : (m : List ℕ) → memory_fits m ≡ true → older (gone_back m) ≡ older m - 1
-unfolding gone_back
-back_older m f =
-    down_front (set m 1 (older m - 1)) (length-set m 1 (older m - 1) ∙ memory-long m f) 1 (omega arith) ∙ get_or-set_same m 1 (older m - 1) 0 (omega (arith, memory-long m f))
-
-pub back_fits : (m : List ℕ) → memory_fits m ≡ true → memory_fits (gone_back m) ≡ true
-unfolding gone_back
-back_fits m f =
-    words_fit (moved_down n)
+pub fits-counted : (m : List ℕ) (v : ℕ) → v ≤ 8 → memory_fits m ≡ true → memory_fits (set m 1 v) ≡ true
+fits-counted m v h f =
+    let w = fit_words m f in
+    words_fit (set m 1 v)
     (record {
-      long = down_long n long;
-      mark_low = omega (arith, down_front n long 0 (omega arith), get_or-set_other m 1 0 (older m - 1) 0 (omega arith), w.mark_low);
-      few = omega (arith, down_front n long 1 (omega arith), get_or-set_same m 1 (older m - 1) 0 (omega (arith, w.long)), w.few);
-      short = short;
+      long = length-set m 1 v ∙ w.long;
+      mark_low = omega (arith, get_or-set_other m 1 0 v 0 (omega arith), w.mark_low);
+      few = omega (arith, get_or-set_same m 1 v 0 (omega (arith, w.long)));
+      short = λ k l. omega (arith, get_or-set_other m 1 (2 + k) v 0 (omega arith), w.short k l);
+    })
+
+-- lengths and slots moved by one: eight of them, from the bth on to where the ath is
+unfoldable pub moved : ℕ → ℕ → List ℕ → List ℕ
+moved a b m =
+    paste (paste m (2 + a) (drop (2 + b) m) 8) (16 + a * 8192) (drop (16 + b * 8192) (paste m (2 + a) (drop (2 + b) m) 8)) 65536
+
+pub down_is : (m : List ℕ) → moved_down m ≡ moved 0 1 m
+unfolding moved_down moved
+down_is m = refl
+
+pub up_is : (m : List ℕ) → moved_up m ≡ moved 1 0 m
+unfolding moved_up moved
+up_is m = refl
+
+module _ (m : List ℕ) (long : length m ≡ memory_words) (a b : ℕ) (to : a ≤ 1) (from : b ≤ 1) where
+  shifted : List ℕ
+  shifted = paste m (2 + a) (drop (2 + b) m) 8
+
+  long_from : 8 ≤ length (drop (2 + b) m)
+  long_from = omega (arith, length-drop (2 + b) m, long)
+
+  long_shifted : length shifted ≡ memory_words
+  unfolding shifted
+  long_shifted = length-paste m (2 + a) (drop (2 + b) m) 8 (omega (arith, long)) long_from ∙ long
+
+  long_slots : 65536 ≤ length (drop (16 + b * 8192) shifted)
+  long_slots = omega (arith, length-drop (16 + b * 8192) shifted, long_shifted)
+
+  pub moved-long : length (moved a b m) ≡ memory_words
+  unfolding moved shifted
+  moved-long = length-paste shifted (16 + a * 8192) (drop (16 + b * 8192) shifted) 65536 (omega (arith, long_shifted)) long_slots ∙ long_shifted
+
+  -- a word of the header, of which the lengths are those of the other programs
+  moved_header : (i : ℕ) → i < 16 → get_or (moved a b m) i 0 ≡ get_or shifted i 0
+  unfolding moved shifted
+  moved_header i h = paste_low shifted (drop (16 + b * 8192) shifted) (16 + a * 8192) 65536 (omega (arith, long_shifted)) long_slots i (omega arith)
+
+  pub moved_front : (i : ℕ) → i < 2 + a → get_or (moved a b m) i 0 ≡ get_or m i 0
+  unfolding shifted
+  moved_front i h = moved_header i (omega arith) ∙ paste_low m (drop (2 + b) m) (2 + a) 8 (omega (arith, long)) long_from i h
+
+  pub moved_length : (k : ℕ) → k < 8 → get_or (moved a b m) (2 + (k + a)) 0 ≡ get_or m (2 + (k + b)) 0
+  unfolding shifted
+  moved_length k h =
+      moved_header (2 + (k + a)) (omega arith)
+      ∙ paste_mid m (drop (2 + b) m) (2 + a) 8 (omega (arith, long)) long_from (2 + (k + a)) (omega arith) (omega arith)
+      ∙ get_or-drop (2 + b) m (2 + (k + a) - (2 + a)) 0 ∙ ap (λ j. get_or m j 0) (let z : 2 + b + (2 + (k + a) - (2 + a)) ≡ 2 + (k + b) = omega arith in z)
+
+  moved_last : (i : ℕ) → 10 + a ≤ i → i < 16 → get_or (moved a b m) i 0 ≡ get_or m i 0
+  unfolding shifted
+  moved_last i h l = moved_header i l ∙ paste_high m (drop (2 + b) m) (2 + a) 8 (omega (arith, long)) long_from i (omega arith)
+
+  -- a word of the slots, and one behind those that are written
+  moved_word : (i : ℕ) → i < 65536 → get_or (moved a b m) (16 + a * 8192 + i) 0 ≡ get_or m (16 + b * 8192 + i) 0
+  unfolding moved shifted
+  moved_word i h =
+      paste_mid shifted (drop (16 + b * 8192) shifted) (16 + a * 8192) 65536 (omega (arith, long_shifted)) long_slots (16 + a * 8192 + i) (omega arith) (omega arith)
+      ∙ get_or-drop (16 + b * 8192) shifted (16 + a * 8192 + i - (16 + a * 8192)) 0
+      ∙ paste_high m (drop (2 + b) m) (2 + a) 8 (omega (arith, long)) long_from (16 + b * 8192 + (16 + a * 8192 + i - (16 + a * 8192))) (omega arith)
+      ∙ ap (λ j. get_or m j 0) (let z : 16 + b * 8192 + (16 + a * 8192 + i - (16 + a * 8192)) ≡ 16 + b * 8192 + i = omega arith in z)
+
+  pub moved-behind : (i : ℕ) → 65552 + a * 8192 ≤ i → get_or (moved a b m) i 0 ≡ get_or m i 0
+  unfolding moved shifted
+  moved-behind i h =
+      paste_high shifted (drop (16 + b * 8192) shifted) (16 + a * 8192) 65536 (omega (arith, long_shifted)) long_slots i (omega arith)
+      ∙ paste_high m (drop (2 + b) m) (2 + a) 8 (omega (arith, long)) long_from i (omega arith)
+
+  moved-slot : (k : ℕ) → k < 8 → slot (k + a) (moved a b m) ≡ slot (k + b) m
+  moved-slot k h =
+      part_same (moved a b m) m (16 + (k + a) * 8192) (16 + (k + b) * 8192) 8192 (omega (arith, moved-long)) (omega (arith, long))
+      (λ j l.
+      ap (λ i. get_or (moved a b m) i 0) (let z : 16 + (k + a) * 8192 + j ≡ 16 + a * 8192 + (k * 8192 + j) = omega arith in z)
+      ∙ moved_word (k * 8192 + j) (omega arith)
+      ∙ ap (λ i. get_or m i 0) (let z : 16 + b * 8192 + (k * 8192 + j) ≡ 16 + (k + b) * 8192 + j = omega arith in z))
+
+  pub moved-held : (k i j : ℕ) → k < 8 → i ≡ k + a → j ≡ k + b → held i (moved a b m) ≡ held j m
+  moved-held k i j h p q =
+      ap (λ l. held l (moved a b m)) p ∙ held_same m (moved a b m) (k + a) (k + b) (moved_length k h) (moved-slot k h) ∙ ap (λ l. held l m) (sym q)
+
+pub moved-fits : (m : List ℕ) (a b : ℕ) → a ≤ 1 → b ≤ 1 → memory_fits m ≡ true → memory_fits (moved a b m) ≡ true
+moved-fits m a b to from f =
+    words_fit (moved a b m)
+    (record {
+      long = moved-long m long a b to from;
+      mark_low = omega (arith, moved_front m long a b to from 0 (omega arith), w.mark_low);
+      few = omega (arith, moved_front m long a b to from 1 (omega arith), w.few);
+      short = λ k l. lengths_low k l (leb (8 + a) k) (ltb k a) refl refl;
     })
   where
-    n : List ℕ
-    n = set m 1 (older m - 1)
-
     w : FitWords m
     w = fit_words m f
 
-    long : length (set m 1 (older m - 1)) ≡ memory_words
-    long = length-set m 1 (older m - 1) ∙ memory-long m f
+    long : length m ≡ memory_words
+    long = memory-long m f
 
-    other : (k : ℕ) → get_or (set m 1 (older m - 1)) (2 + k) 0 ≡ get_or m (2 + k) 0
-    other k = get_or-set_other m 1 (2 + k) (older m - 1) 0 (omega arith)
+    -- the last stays, or the first, or it was another's
+    lengths_low : (k : ℕ) → k < 9 → (s t : Bool) → leb (8 + a) k ≡ s → ltb k a ≡ t → get_or (moved a b m) (2 + k) 0 ≤ 65528
+    lengths_low k l true t d e = omega (arith, moved_last m long a b to from (2 + k) (omega (arith, leb-true (8 + a) k d)) (omega arith), w.short k l)
+    lengths_low k l false true d e = omega (arith, moved_front m long a b to from (2 + k) (omega (arith, ltb-true k a e)), w.short k l)
+    lengths_low k l false false d e =
+        let low : k - a < 8 = omega (arith, leb-false (8 + a) k d) in
+        let is : k - a + a ≡ k = omega (arith, ltb-false k a e) in
+        subst (λ j. get_or (moved a b m) (2 + j) 0 ≤ 65528) is (omega (arith, moved_length m long a b to from (k - a) low, w.short (k - a + b) (omega arith)))
 
-    below : (k : ℕ) → k < 9 → (t : Bool) → leb 8 k ≡ t → get_or (moved_down (set m 1 (older m - 1))) (2 + k) 0 ≤ 65528
-    below k l true e =
-        let is : 8 ≡ k = omega (arith, leb-true 8 k e) in
-        subst (λ j. get_or (moved_down (set m 1 (older m - 1))) (2 + j) 0 ≤ 65528) is (omega (arith, down_last (set m 1 (older m - 1)) long, other 8, w.short 8 (omega arith)))
-    below k l false e =
-        let low : k < 8 = omega (arith, leb-false 8 k e) in
-        omega (arith, down_length (set m 1 (older m - 1)) long k low, other (suc k), w.short (suc k) (omega arith))
+-- going back
+module _ (m : List ℕ) (f : memory_fits m ≡ true) where
+  counted-long : (v : ℕ) → length (set m 1 v) ≡ memory_words
+  counted-long v = length-set m 1 v ∙ memory-long m f
 
-    short : (k : ℕ) → k < 9 → get_or (moved_down (set m 1 (older m - 1))) (2 + k) 0 ≤ 65528
-    short k l = below k l (leb 8 k) refl
+  back_is : gone_back m ≡ moved 0 1 (set m 1 (older m - 1))
+  unfolding gone_back
+  back_is = down_is (set m 1 (older m - 1))
+
+  pub back_held : (k : ℕ) → k < 8 → held k (gone_back m) ≡ held (suc k) m
+  back_held k h =
+      ap (held k) back_is ∙ moved-held (set m 1 (older m - 1)) (counted-long (older m - 1)) 0 1 (omega arith) (omega arith) k k (suc k) h (omega arith) (omega arith)
+      ∙ held-set m 1 (older m - 1) (suc k) (omega arith) (omega arith)
+
+  pub back_older : older (gone_back m) ≡ older m - 1
+  back_older =
+      ap older back_is ∙ moved_front (set m 1 (older m - 1)) (counted-long (older m - 1)) 0 1 (omega arith) (omega arith) 1 (omega arith)
+      ∙ get_or-set_same m 1 (older m - 1) 0 (omega (arith, memory-long m f))
+
+  pub back_fits : memory_fits (gone_back m) ≡ true
+  back_fits =
+      ap memory_fits back_is
+      ∙ moved-fits (set m 1 (older m - 1)) 0 1 (omega arith) (omega arith) (fits-counted m (older m - 1) (omega (arith, older-few m f)) f)
 
 -- words put over others, as a copy of all of them
 pub put_paste : (m : List ℕ) (i : ℕ) (ws : List ℕ) → put_words m i ws ≡ paste m i ws (length ws)
@@ -184,28 +223,34 @@ module _ (m : List ℕ) (i : ℕ) (ws : List ℕ) (room : i + length ws ≤ leng
   pub put_mid : (k : ℕ) → i ≤ k → k < i + length ws → get_or (put_words m i ws) k 0 ≡ get_or ws (k - i) 0
   put_mid k h l = ap (λ l. get_or l k 0) (put_paste m i ws) ∙ paste_mid m ws i (length ws) room (omega arith) k h l
 
--- a table in the frames leaves header and slots as they were
-pub cleared_long : (m : List ℕ) → length m ≡ memory_words → length (table_cleared m) ≡ memory_words
-cleared_long m long = put_long m frames_at (zero_words 2048) (omega (arith, long)) ∙ long
+-- words put past the slots leave header and slots as they were
+module _ (m : List ℕ) (i : ℕ) (ws : List ℕ) (past : build_at ≤ i) (room : i + length ws ≤ memory_words) (f : memory_fits m ≡ true) where
+  pub past_long : length (put_words m i ws) ≡ memory_words
+  past_long = put_long m i ws (omega (arith, room, memory-long m f)) ∙ memory-long m f
 
-pub cleared_word : (m : List ℕ) → length m ≡ memory_words → (k : ℕ) → k < frames_at → get_or (table_cleared m) k 0 ≡ get_or m k 0
-cleared_word m long k h = put_low m frames_at (zero_words 2048) (omega (arith, long)) k h
+  pub past_word : (k : ℕ) → k < build_at → get_or (put_words m i ws) k 0 ≡ get_or m k 0
+  past_word k h = put_low m i ws (omega (arith, room, memory-long m f)) k (omega (arith, past))
 
-pub cleared_held : (m : List ℕ) → length m ≡ memory_words → (k : ℕ) → k < 9 → held k (table_cleared m) ≡ held k m
-cleared_held m long k h =
-    held_same m (table_cleared m) k k (cleared_word m long (2 + k) (omega arith))
-    (part_same (table_cleared m) m (16 + k * 8192) (16 + k * 8192) 8192 (omega (arith, cleared_long m long)) (omega (arith, long)) (λ j l. cleared_word m long (16 + k * 8192 + j) (omega arith)))
+  pub past_held : (k : ℕ) → k < 9 → held k (put_words m i ws) ≡ held k m
+  past_held k h =
+      held_same m (put_words m i ws) k k (past_word (2 + k) (omega arith))
+      (part_same (put_words m i ws) m (16 + k * 8192) (16 + k * 8192) 8192 (omega (arith, past_long)) (omega (arith, memory-long m f))
+      (λ j l. past_word (16 + k * 8192 + j) (omega arith)))
 
-pub cleared_fits : (m : List ℕ) → memory_fits m ≡ true → memory_fits (table_cleared m) ≡ true
-cleared_fits m f =
-    let w = fit_words m f in
-    words_fit (table_cleared m)
-    (record {
-      long = cleared_long m w.long;
-      mark_low = omega (arith, cleared_word m w.long 0 (omega arith), w.mark_low);
-      few = omega (arith, cleared_word m w.long 1 (omega arith), w.few);
-      short = λ k l. omega (arith, cleared_word m w.long (2 + k) (omega arith), w.short k l);
-    })
+  pub past_fits : memory_fits (put_words m i ws) ≡ true
+  past_fits =
+      let w = fit_words m f in
+      words_fit (put_words m i ws)
+      (record {
+        long = past_long;
+        mark_low = omega (arith, past_word 0 (omega arith), w.mark_low);
+        few = omega (arith, past_word 1 (omega arith), w.few);
+        short = λ k l. omega (arith, past_word (2 + k) (omega arith), w.short k l);
+      })
+
+-- so many zeros have room where so many words do
+pub zeros_room : (i n : ℕ) → i + n ≤ memory_words → i + length (zero_words n) ≤ memory_words
+zeros_room i n h = omega (arith, h, length-replicate {A = ℕ} n 0)
 
 -- a program that is loaded is held
 module _ (m : List ℕ) (bs : List ℕ) (f : memory_fits m ≡ true) (low : 8 ≤ length bs) (high : length bs ≤ 65536) (bytes : all_bytes bs ≡ true) where

@@ -1,23 +1,22 @@
 -- A step leaves the memory as long as it was, and its numbers within 64 bits. Assumes nothing.
-use Rattle.std.proofs.Common.{◌≡◌, ℕ, zero, suc, ◌+◌, ◌-◌, ◌<◌, ◌≤◌, true, ltb, List, [], ◌∷◌, ◌++◌, length, get_or, take, drop, set, Some, sym, refl, ◌∙◌, arith, length-set, lt-ltb}
+use Rattle.std.proofs.Common.{◌≡◌, ℕ, zero, suc, ◌+◌, ◌-◌, ◌*◌, ◌<◌, ◌≤◌, true, ltb, List, [], ◌∷◌, ◌++◌, length, take, drop, set, Some, sym, refl, ap, ◌∙◌, subst, arith, length-set, lt-ltb}
 use lib.Seq.{paste}
 use Rattle.std.proofs.lemmas.Bool.{and_parts, and_from}
-use Rattle.language.specs.Basics.{flat}
-use Rattle.language.specs.Bytes.{eight, all_bytes}
+use Rattle.language.specs.Bytes.{all_bytes}
 use Rattle.language.specs.Reading.{fun_end}
 use Rattle.language.specs.Spelling.{fun_spelled}
 use Rattle.language.specs.Packed.{packed}
 use Rattle.language.proofs.ListFacts.{every_take, every_drop, every_append}
-use Rattle.language.proofs.ByteFacts.{bytes_append, bytes_eight}
 use Rattle.language.proofs.StandsFacts.{stands_in}
 use Rattle.language.proofs.ProgramFacts.{fun_reads, fun-long}
 use Rattle.language.proofs.PackedLaws.{length_packed_words, packed-small}
 use Rattle.model.specs.Engine.{all_small}
-use Rattle.memory.specs.Layout.{memory_words, zero_words, older, memory_fits, slot, held, frames_at, put_words}
-use Rattle.machine.specs.History.{loaded, moved_down, gone_back}
-use Rattle.machine.specs.Machine.{table_cleared}
-use Rattle.memory.proofs.LayoutFacts.{memory-long, older-few, held-long}
-use Rattle.machine.proofs.RegionFacts.{put_long, cleared_long, down_long}
+use Rattle.memory.specs.Layout.{memory_words, zero_words, older, memory_fits, held, build_at, put_words, slot_filled, wiped, built}
+use Rattle.expr.specs.Look.{smaller}
+use Rattle.machine.specs.History.{loaded, moved_down, gone_back, moved_up, placed, committed, changed}
+use Rattle.memory.proofs.LayoutFacts.{memory-long, older-few, held-long, held_bytes}
+use Rattle.machine.proofs.RegionFacts.{fits-counted, moved, down_is, up_is, moved-long, moved-fits, put_long, past_long, zeros_room}
+use Rattle.machine.proofs.ChangeFacts.{smaller_min, placed-long, committed-fits, built_room, built-fits}
 
 -- what is left is as long, and as small
 pub record KeepsSize (m n : List ℕ) : Type 0 where
@@ -63,32 +62,40 @@ unfolding all_small
 small_zeros zero = refl
 small_zeros (suc n) = small_zeros n
 
--- going back
-pub size_down : (m : List ℕ) → length m ≡ memory_words → KeepsSize m (moved_down m)
-unfolding moved_down
-size_down m long =
+-- words put past the slots, and zeros
+pub size_past : (m : List ℕ) (i : ℕ) (ws : List ℕ) → build_at ≤ i → i + length ws ≤ memory_words → all_small ws ≡ true → memory_fits m ≡ true → KeepsSize m (put_words m i ws)
+size_past m i ws past room words f =
+    record { long = past_long m i ws past room f ∙ sym (memory-long m f); small = λ h. small_put m i ws h words }
+
+pub size_zeros : (m : List ℕ) (i n : ℕ) → build_at ≤ i → i + n ≤ memory_words → memory_fits m ≡ true → KeepsSize m (put_words m i (zero_words n))
+size_zeros m i n past room f = size_past m i (zero_words n) past (zeros_room i n room) (small_zeros n) f
+
+-- lengths and slots moved by one
+pub size_moved : (m : List ℕ) (a b : ℕ) → a ≤ 1 → b ≤ 1 → length m ≡ memory_words → KeepsSize m (moved a b m)
+unfolding moved
+size_moved m a b to from long =
     record {
-      long = down_long m long ∙ sym long;
+      long = moved-long m long a b to from ∙ sym long;
       small = λ h.
-          let s = small-paste m 2 (drop 3 m) 8 h (small-drop 3 m h) in
-          small-paste (paste m 2 (drop 3 m) 8) 16 (drop 8208 (paste m 2 (drop 3 m) 8)) 65536 s (small-drop 8208 (paste m 2 (drop 3 m) 8) s);
+          let n = paste m (2 + a) (drop (2 + b) m) 8 in
+          let s = small-paste m (2 + a) (drop (2 + b) m) 8 h (small-drop (2 + b) m h) in
+          small-paste n (16 + a * 8192) (drop (16 + b * 8192) n) 65536 s (small-drop (16 + b * 8192) n s);
     }
 
+-- going back
 pub size_back : (m : List ℕ) → memory_fits m ≡ true → KeepsSize m (gone_back m)
 unfolding gone_back
 size_back m f =
     let one = size_set m 1 (older m - 1) (omega (arith, older-few m f)) in
-    size_then m (set m 1 (older m - 1)) (moved_down (set m 1 (older m - 1))) one (size_down (set m 1 (older m - 1)) (one.long ∙ memory-long m f))
+    size_then m (set m 1 (older m - 1)) (moved_down (set m 1 (older m - 1))) one
+    (subst (KeepsSize (set m 1 (older m - 1))) (sym (down_is (set m 1 (older m - 1))))
+    (size_moved (set m 1 (older m - 1)) 0 1 (omega arith) (omega arith) (one.long ∙ memory-long m f)))
 
 packed_words_small : (bs : List ℕ) → all_bytes bs ≡ true → all_small (packed bs) ≡ true
 unfolding all_small
 packed_words_small bs bytes = packed-small bs bytes
 
 -- loading
-pub size_cleared : (m : List ℕ) → memory_fits m ≡ true → KeepsSize m (table_cleared m)
-size_cleared m f =
-    record { long = cleared_long m (memory-long m f) ∙ sym (memory-long m f); small = λ h. small_put m frames_at (zero_words 2048) h (small_zeros 2048) }
-
 pub size_loaded : (m bs : List ℕ) → length m ≡ memory_words → length bs ≤ 65536 → all_bytes bs ≡ true → KeepsSize m (loaded m bs)
 unfolding loaded
 size_loaded m bs long short bytes =
@@ -100,15 +107,49 @@ size_loaded m bs long short bytes =
     (size_then (put_words m 16 (packed bs)) (set (put_words m 16 (packed bs)) 1 0) (set (set (put_words m 16 (packed bs)) 1 0) 2 (length bs - 8))
     (size_set (put_words m 16 (packed bs)) 1 0 (omega arith)) (size_set (set (put_words m 16 (packed bs)) 1 0) 2 (length bs - 8) (omega arith)))
 
+-- a change
+pub size_wiped : (m : List ℕ) → memory_fits m ≡ true → KeepsSize m (wiped m)
+unfolding wiped
+size_wiped m f = size_zeros m build_at 57344 (omega arith) (omega arith) f
+
+size_built : (m bs : List ℕ) → memory_fits m ≡ true → length bs ≤ 65536 → all_bytes bs ≡ true → KeepsSize m (built m bs)
+unfolding built
+size_built m bs f short bytes =
+    size_past m build_at (slot_filled bs ++ zero_words 49152) (omega arith) (built_room m bs f short)
+    (small-append (slot_filled bs) (zero_words 49152)
+    (small-append (packed bs) (zero_words (8192 - length (packed bs))) (packed_words_small bs bytes) (small_zeros (8192 - length (packed bs)))) (small_zeros 49152))
+    f
+
+size_placed : (m : List ℕ) (n : ℕ) → memory_fits m ≡ true → n ≤ 65536 → KeepsSize m (placed m n)
+unfolding placed
+size_placed m n f short =
+    let one = size_set m 2 (n - 8) (omega arith) in
+    record {
+      long = placed-long m n f ∙ sym (memory-long m f);
+      small = λ h. small-paste (set m 2 (n - 8)) 16 (drop 73744 (set m 2 (n - 8))) 8192 (one.small h) (small-drop 73744 (set m 2 (n - 8)) (one.small h));
+    }
+
+size_committed : (m : List ℕ) (n : ℕ) → memory_fits m ≡ true → n ≤ 65536 → KeepsSize m (committed m n)
+unfolding committed
+size_committed m n f short =
+    let c = set m 1 (smaller 8 (older m + 1)) in
+    let few : smaller 8 (older m + 1) ≤ 8 = omega (arith, smaller_min 8 (older m + 1)) in
+    let fit = fits-counted m (smaller 8 (older m + 1)) few f in
+    let up = subst (KeepsSize c) (sym (up_is c)) (size_moved c 1 0 (omega arith) (omega arith) (memory-long c fit)) in
+    let up_fit = ap memory_fits (up_is c) ∙ moved-fits c 1 0 (omega arith) (omega arith) fit in
+    size_then m c (placed (moved_up c) n) (size_set m 1 (smaller 8 (older m + 1)) (omega (arith, few)))
+    (size_then c (moved_up c) (placed (moved_up c) n) up (size_placed (moved_up c) n up_fit short))
+
+pub size_changed : (m bs : List ℕ) → memory_fits m ≡ true → length bs ≤ 65536 → all_bytes bs ≡ true → KeepsSize m (changed m bs)
+unfolding changed
+size_changed m bs f short bytes =
+    let fit = built-fits m bs f short in
+    let c = committed (built m bs) (length bs) in
+    size_then m (built m bs) (put_words c build_at (zero_words 8192)) (size_built m bs f short bytes)
+    (size_then (built m bs) c (put_words c build_at (zero_words 8192)) (size_committed (built m bs) (length bs) fit short)
+    (size_zeros c build_at 8192 (omega arith) (omega arith) (committed-fits (built m bs) (length bs) fit short)))
+
 -- a function that is read in what is held ends within it
-flat_bytes : (ws : List ℕ) → all_bytes (flat eight ws) ≡ true
-flat_bytes [] = refl
-flat_bytes (w ∷ ws) = bytes_append (eight w) (flat eight ws) (bytes_eight w) (flat_bytes ws)
-
-pub held_bytes : (k : ℕ) (m : List ℕ) → all_bytes (held k m) ≡ true
-unfolding held
-held_bytes k m = every_take (λ b. ltb b 256) (get_or m (2 + k) 0 + 8) (flat eight (slot k m)) (flat_bytes (slot k m))
-
 pub fun_within : (m : List ℕ) (i k : ℕ) → fun_end (held 0 m) i ≡ Some k → k ≤ 65536
 fun_within m i k e =
     let t = (fun_reads (held 0 m) (held_bytes 0 m)).was i k e in

@@ -1,24 +1,32 @@
 -- The machine's memory is zeros at the start, and no step makes it longer or its numbers larger than 64 bits. Assumes nothing.
-use Rattle.std.proofs.Common.{◌≡◌, ℕ, zero, suc, ◌+◌, ◌-◌, ◌≤◌, Bool, true, false, eqb, ltb, List, length, set, Some, None, Option, refl, ap, subst, arith}
+use Rattle.std.proofs.Common.{◌≡◌, ℕ, zero, suc, ◌+◌, ◌-◌, ◌≤◌, Bool, true, false, eqb, ltb, leb, List, length, set, Some, None, Option, refl, ap, ◌∙◌, subst, arith, leb-true}
 use lib.ListN.{length-replicate}
 use Rattle.std.specs.List.{between}
 use Rattle.language.specs.Basics.{pick, every}
 use Rattle.language.specs.Bytes.{Name, all_bytes}
-use Rattle.language.specs.Reading.{found, name_end, fun_end}
-use Rattle.language.specs.Contents.{is_fine}
+use Rattle.language.specs.Fits.{a_name}
+use Rattle.language.specs.Names.{has}
+use Rattle.language.specs.Reading.{found, name_end, fun_end, place_at}
+use Rattle.language.specs.Contents.{own_names, is_fine, find_function, body_of}
+use Rattle.language.specs.Binders.{Binder, let_at, own_binder}
+use Rattle.language.specs.Splice.{names_replaced}
+use Rattle.language.specs.Uses.{uses_of}
+use Rattle.language.proofs.SpliceBytes.{bytes_replaced}
 use Rattle.language.proofs.ProgramFacts.{program_short}
 use Rattle.language.proofs.ReadingFacts.{found_some}
 use Rattle.language.proofs.ByteFacts.{bytes_program}
 use Rattle.model.specs.Command.{Command, load, show, names, rename_bind, rename_param, rename_fun, extract, inline_bind, inline_call, turn_cond, drop_fun, undo}
-use Rattle.model.specs.Engine.{Event, said, next, refused, done, Steady}
+use Rattle.model.specs.Capture.{others}
+use Rattle.model.specs.Engine.{Event, said, next, refused, done, Step, Steady}
 use Rattle.model.specs.Reading.{Ask, loading, asking, Asks, asked}
 use Rattle.model.proofs.AskedFacts.{asked-said}
-use Rattle.memory.specs.Layout.{zero_words, mark, older, memory_fits, held}
-use Rattle.machine.specs.History.{loaded, gone_back}
+use Rattle.memory.specs.Layout.{zero_words, mark, older, memory_fits, held, frames_at, wiped}
+use Rattle.machine.specs.History.{loaded, gone_back, changed}
+use Rattle.machine.specs.Rename.{with_some, written_step, renamed_step, rename_bind_step, rename_param_step}
 use Rattle.machine.specs.Machine.{stepped, table_cleared, load_step, function_row, row_shown, show_step, Row, row, name_row, name_shown, names_step, undo_step, command_step, obeyed, gone_on, by_event, step_of, own}
-use Rattle.memory.proofs.LayoutFacts.{memory-long}
-use Rattle.machine.proofs.RegionFacts.{fits_marked, cleared_fits}
-use Rattle.machine.proofs.SizeFacts.{KeepsSize, size_refl, size_then, size_set, size_back, size_cleared, size_loaded, fun_within}
+use Rattle.memory.proofs.LayoutFacts.{memory-long, held_bytes}
+use Rattle.machine.proofs.RegionFacts.{fits_marked}
+use Rattle.machine.proofs.SizeFacts.{KeepsSize, size_refl, size_then, size_set, size_zeros, size_back, size_loaded, size_wiped, size_changed, fun_within}
 
 pub record SpellsProgram (bs : List ℕ) : Type 0 where
   pub low : 8 ≤ length bs
@@ -33,13 +41,18 @@ asked_bytes text bs e =
     let s = program_short p.0 p.2 in
     subst SpellsProgram p.1 (record { low = s.0; high = s.1; bytes = bytes_program p.0 p.2 })
 
+cleared_size : (m : List ℕ) → memory_fits m ≡ true → KeepsSize m (table_cleared m)
+cleared_size m f = size_zeros m frames_at 2048 (omega arith) (omega arith) f
+
 load_size : (m bs : List ℕ) → memory_fits m ≡ true → SpellsProgram bs → KeepsSize m (load_step m bs).memory
 unfolding load_step
 load_size m bs f s = go (is_fine bs)
   where
     go : (t : Bool) → KeepsSize m (pick t (stepped (loaded (table_cleared m) bs) done) (stepped (table_cleared m) (refused 4))).memory
-    go true = size_then m (table_cleared m) (loaded (table_cleared m) bs) (size_cleared m f) (size_loaded (table_cleared m) bs (memory-long (table_cleared m) (cleared_fits m f)) s.high s.bytes)
-    go false = size_cleared m f
+    go true =
+        size_then m (table_cleared m) (loaded (table_cleared m) bs) (cleared_size m f)
+        (size_loaded (table_cleared m) bs ((cleared_size m f).long ∙ memory-long m f) s.high s.bytes)
+    go false = cleared_size m f
 
 show_size : (m : List ℕ) (x : Name) → KeepsSize m (show_step m x).memory
 unfolding show_step
@@ -72,6 +85,44 @@ undo_size m f = go (eqb (older m) 0)
     go : (t : Bool) → KeepsSize m (pick t (stepped m (refused 9)) (stepped (gone_back m) done)).memory
     go true = size_refl m
     go false = size_back m f
+
+-- renaming: a program that is written is as small as it is tested to be, and its bytes are bytes
+some_size : {A : Type 0} (m : List ℕ) (o : Option A) (s : Step) (g : A → Step) → KeepsSize m s.memory → ((a : A) → KeepsSize m (g a).memory) → KeepsSize m (with_some o s g).memory
+some_size m None s g h k = h
+some_size m (Some a) s g h k = k a
+
+written_size : (m bs : List ℕ) → memory_fits m ≡ true → all_bytes bs ≡ true → KeepsSize m (written_step m bs).memory
+written_size m bs f bytes = go (leb (length bs) 65536) refl
+  where
+    go : (t : Bool) → leb (length bs) 65536 ≡ t → KeepsSize m (pick t (stepped (changed m bs) done) (stepped (wiped m) (refused 7))).memory
+    go true e = size_changed m bs f (leb-true (length bs) 65536 e) bytes
+    go false e = size_wiped m f
+
+renamed_size : (m : List ℕ) (y : Name) (b : Binder) → memory_fits m ≡ true → a_name y ≡ true → KeepsSize m (renamed_step m y b).memory
+unfolding renamed_step
+renamed_size m y b f named =
+    some_size m (uses_of (held 0 m) b.name y b.at b.body) (stepped (wiped m) (refused 5))
+    (λ us. written_step m (names_replaced (held 0 m) b.name y us)) (size_wiped m f)
+    (λ us. written_size m (names_replaced (held 0 m) b.name y us) f (bytes_replaced (held 0 m) b.name y us (held_bytes 0 m) named))
+
+pub bind_size : (m : List ℕ) (x : Name) (ks : List ℕ) (y : Name) → memory_fits m ≡ true → a_name y ≡ true → KeepsSize m (rename_bind_step m x ks y).memory
+unfolding rename_bind_step
+bind_size m x ks y f named =
+    some_size m (find_function (held 0 m) x) _ _ (size_refl m)
+    (λ o. some_size m (body_of (held 0 m) o) _ _ (size_refl m)
+    (λ b. some_size m (place_at (held 0 m) ks b) _ _ (size_refl m)
+    (λ i. some_size m (let_at (held 0 m) i) _ _ (size_refl m) (λ l. renamed_size m y l f named))))
+
+pub param_size : (m : List ℕ) (x : Name) (i : ℕ) (y : Name) → memory_fits m ≡ true → a_name y ≡ true → KeepsSize m (rename_param_step m x i y).memory
+unfolding rename_param_step
+param_size m x i y f named =
+    some_size m (find_function (held 0 m) x) _ _ (size_refl m)
+    (λ o. some_size m (own_binder (held 0 m) o i) _ _ (size_refl m)
+    (λ b. apart b (has (others (own_names (held 0 m) o) i) y)))
+  where
+    apart : (b : Binder) (t : Bool) → KeepsSize m (pick t (stepped m (refused 5)) (renamed_step m y b)).memory
+    apart b true = size_refl m
+    apart b false = renamed_size m y b f named
 
 command_size : (m : List ℕ) → memory_fits m ≡ true → (c : Command) → KeepsSize m (command_step m c).memory
 command_size m f (load p) = size_refl m

@@ -3,7 +3,7 @@ use Rattle.std.specs.Prelude.{ℕ, ◌+◌, ◌-◌, List, length, drop, slice_s
 use Rattle.std.proofs.Math.Seq.{paste}
 use Rattle.language.specs.Packed.{packed}
 use Rattle.expr.specs.Look.{smaller}
-use Rattle.memory.specs.Layout.{older, put_words}
+use Rattle.memory.specs.Layout.{older, build_at, frames_at, put_words, zero_words, built}
 
 -- the program in these bytes is the current one, and there is nothing to go back to
 unfoldable pub loaded : List ℕ → List ℕ → List ℕ
@@ -27,3 +27,11 @@ placed m n = paste (slice_set m 2 (n - 8)) 16 (drop 73744 (slice_set m 2 (n - 8)
 -- and the one before can be gone back to
 unfoldable pub committed : List ℕ → ℕ → List ℕ
 committed m n = placed (moved_up (slice_set m 1 (smaller 8 (older m + 1)))) n
+
+-- the n bytes in the build area are the current program, the one before can be gone back to, and build area, frames and list are zeros
+unfoldable pub accepted : List ℕ → ℕ → List ℕ
+accepted m n = put_words (committed (put_words m frames_at (zero_words 49152)) n) build_at (zero_words 8192)
+
+-- what a change leaves: the new program is the current one, the one before can be gone back to, and build area, frames and list are zeros
+unfoldable pub changed : List ℕ → List ℕ → List ℕ
+changed m bs = put_words (committed (built m bs) (length bs)) build_at (zero_words 8192)

@@ -8,7 +8,7 @@ use Rattle.wire.specs.declared.request.Request.TheVariants.{Load, Show, Names, R
 use Rattle.machine.specs.declared.told.Told.{Told}
 use Rattle.machine.specs.declared.told.Told.TheVariants.{Shows, Done, No}
 use Rattle.machine.specs.declared.told.Refusal.{Refusal}
-use Rattle.machine.specs.declared.told.Refusal.TheVariants.{Misuse, NotACommand, NotKnown, Missing, NameTaken, NothingBefore}
+use Rattle.machine.specs.declared.told.Refusal.TheVariants.{Misuse, NotACommand, NotKnown, Missing, NameTaken, Captured, WrongKind, TooLarge, NothingBefore}
 
 -- the number of each refusal
 abbrev pub refusal_number : Refusal → ℕ
@@ -17,6 +17,9 @@ refusal_number NotACommand = 1
 refusal_number NotKnown = 2
 refusal_number Missing = 3
 refusal_number NameTaken = 4
+refusal_number Captured = 5
+refusal_number WrongKind = 6
+refusal_number TooLarge = 7
 refusal_number NothingBefore = 9
 
 -- kind 0: a command is said; 1: go on

@@ -23,6 +23,12 @@ pub enum Refusal {
     Missing,
     // A function has that name, or one is called so.
     NameTaken,
+    // A use would belong to another binder, or another own name is called so.
+    Captured,
+    // What is there is not of the kind that is asked for.
+    WrongKind,
+    // The program would have more than 65,536 bytes.
+    TooLarge,
     // There is no older program.
     NothingBefore,
 }
@@ -36,6 +42,9 @@ pub fn refused(why: Refusal) -> Told
         Refusal::NotKnown => Told::No(2),
         Refusal::Missing => Told::No(3),
         Refusal::NameTaken => Told::No(4),
+        Refusal::Captured => Told::No(5),
+        Refusal::WrongKind => Told::No(6),
+        Refusal::TooLarge => Told::No(7),
         Refusal::NothingBefore => Told::No(9),
     }
 }

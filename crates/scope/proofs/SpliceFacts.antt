@@ -198,6 +198,9 @@ module _ (m₀ m₁ : List ℕ) (s : Span) (y : Name) (count : ℕ) (p : Splice)
   pub replaced_full : (l : List ℕ) → Appends m₁ p.build total None l → Replaced m₀ total None l
   replaced_full l a = (beside_then m₀ m₁ l beside a.0, omega (arith, a.1, none_yet))
 
+  pub replaced_short : (b : Build) (l : List ℕ) → Appends m₁ p.build total (Some b) l → (k : ℕ) → k ≡ build_length b → k ≤ 65536
+  replaced_short b l a k e = omega (arith, e, (appended_to m₁ p.build total l b fill a).count, a.1)
+
   pub replaced_all : all_bytes y ≡ true → (b : Build) (l : List ℕ) → Appends m₁ p.build total (Some b) l → (k : ℕ) (o : List ℕ) → k ≡ build_length b → o ≡ finished (writing l b) →
       Replaced m₀ total (Some k) o
   replaced_all bytes b l a k o e f =

@@ -5,7 +5,7 @@ ghost use Rattle.language.specs.Bytes.{all_bytes};
 ghost use Rattle.language.specs.Splice.{names_replaced};
 ghost use Rattle.memory.specs.Build.{build_length};
 ghost use Rattle.memory.specs.Layout.{memory_fits, held, listed};
-ghost use Rattle.scope.specs.Splicing.{clipped, Spliced, SplicedAll, Replaced};
+ghost use Rattle.scope.specs.Splicing.{clipped, Spliced, SplicedAll, Replaced, Short};
 
 use crate::renaming::Renaming;
 use expr::source::Source;
@@ -88,7 +88,8 @@ pub fn write_renamed(memory: &mut [u64], renaming: Renaming<'_>, count: usize) -
     requires from { (renaming.from.from ≤ renaming.from.to) × (renaming.from.to ≤ length (held 0 memory.old)) }
     requires bytes { all_bytes renaming.to.now ≡ true }
     requires count { count ≤ 8192 }
-    ensures { Replaced memory.old (names_replaced (held 0 memory.old) (spelled_in (held 0 memory.old) renaming.entry.from) renaming.entry.to.now (listed memory.old count)) result memory.new }
+    ensures value { Replaced memory.old (names_replaced (held 0 memory.old) (spelled_in (held 0 memory.old) renaming.entry.from) renaming.entry.to.now (listed memory.old count)) result memory.new }
+    ensures short { Short result }
 {
     let first = Splice {
         build: begin(memory),

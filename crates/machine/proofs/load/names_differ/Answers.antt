@@ -1,5 +1,5 @@
 use Rattle.std.proofs.Common.{arith}
-use Rattle.machine.proofs.LoadFacts.{part_cleared}
+use Rattle.memory.proofs.AreaFacts.{part_cleared}
 use Rattle.machine.proofs.load.names_differ.Goals as goal
 
 pub returns : goal.returns

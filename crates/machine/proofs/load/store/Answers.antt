@@ -2,7 +2,8 @@ use Rattle.std.proofs.Common.{◌-◌, length, set, ap, arith}
 use Rattle.language.specs.Packed.{packed}
 use Rattle.language.proofs.PackedLaws.{length_packed_words}
 use Rattle.machine.specs.History.{loaded}
-use Rattle.machine.proofs.LoadFacts.{bytes_short, bytes_counted, put_in-part}
+use Rattle.memory.proofs.AreaFacts.{put_in-part}
+use Rattle.machine.proofs.LoadFacts.{bytes_short, bytes_counted}
 use Rattle.machine.proofs.load.store.Goals as goal
 
 pub overflow_sub-memory : goal.overflow_sub-memory

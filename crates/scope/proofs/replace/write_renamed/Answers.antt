@@ -8,7 +8,7 @@ use Rattle.memory.specs.Layout.{held, listed}
 use Rattle.memory.proofs.LayoutFacts.{memory-long}
 use Rattle.memory.proofs.BuildFacts.{appended_to}
 use Rattle.scope.specs.Splicing.{clipped}
-use Rattle.scope.proofs.SpliceFacts.{beside, replaced_stop, last_appends, replaced_full, replaced_all, splice_far, beside_held, beside_fits}
+use Rattle.scope.proofs.SpliceFacts.{beside, replaced_stop, last_appends, replaced_full, replaced_short, replaced_all, splice_far, beside_held, beside_fits}
 use Rattle.scope.proofs.replace.write_renamed.Goals as goal
 
 pub splice_names-requires : goal.splice_names-requires
@@ -21,8 +21,8 @@ splice_names-requires c =
       build = (omega (arith, ap (λ (b : Build). b.words) c.begin.ensures.value, ap (λ (b : Build). b.filled) c.begin.ensures.value), (let z : c.begin.result.filled < 8 = omega (arith, ap (λ (b : Build). b.filled) c.begin.ensures.value) in z));
     }
 
-pub returns-in_default : goal.returns-in_default
-returns-in_default c = replaced_stop c.args.memory.now c.begin.new.memory c.args.renaming.from c.args.renaming.to.now c.args.count (record { build = c.begin.result; from = 0 }) (memory-long c.args.memory.now c.requires.memory) c.begin.ensures.after c.begin.ensures.value refl c.requires.from.1 _ c.in_default.ensures
+pub returns-in_default-clause-value : goal.returns-in_default-clause-value
+returns-in_default-clause-value c = replaced_stop c.args.memory.now c.begin.new.memory c.args.renaming.from c.args.renaming.to.now c.args.count (record { build = c.begin.result; from = 0 }) (memory-long c.args.memory.now c.requires.memory) c.begin.ensures.after c.begin.ensures.value refl c.requires.from.1 _ c.in_default.ensures
 
 pub current-requires : goal.current-requires
 current-requires c =
@@ -38,8 +38,8 @@ append_span-requires c =
       span = (c.clip.ensures.within.0, omega (arith, c.clip.ensures.within.1, c.len-len.ensures, ap length c.current.ensures));
     }
 
-pub returns-in_default-append_span : goal.returns-in_default-append_span
-returns-in_default-append_span c = replaced_full c.args.memory.now c.begin.new.memory c.args.renaming.from c.args.renaming.to.now c.args.count (record { build = c.begin.result; from = 0 }) (memory-long c.args.memory.now c.requires.memory) c.begin.ensures.after c.begin.ensures.value refl c.requires.from.1 _
+pub returns-in_default-append_span-clause-value : goal.returns-in_default-append_span-clause-value
+returns-in_default-append_span-clause-value c = replaced_full c.args.memory.now c.begin.new.memory c.args.renaming.from c.args.renaming.to.now c.args.count (record { build = c.begin.result; from = 0 }) (memory-long c.args.memory.now c.requires.memory) c.begin.ensures.after c.begin.ensures.value refl c.requires.from.1 _
     (last_appends c.args.memory.now c.begin.new.memory c.args.renaming.from c.args.renaming.to.now c.args.count (record { build = c.begin.result; from = 0 }) (memory-long c.args.memory.now c.requires.memory) c.begin.ensures.after c.begin.ensures.value refl c.requires.from.1
     c.in-Some.last c.splice_names.new.memory c.in-Some.ensures c.clip.result (c.clip.ensures.value ∙ ap (λ n. clipped c.in-Some.last.from n n) (c.len-len.ensures ∙ ap length c.current.ensures)) None c.append_span.new.memory c.in_default-append_span.ensures)
 
@@ -51,11 +51,19 @@ finish-requires c =
     let far = appended_to c.begin.new.memory c.begin.result (names_replaced (held 0 c.args.memory.now) (spelled_in (held 0 c.args.memory.now) c.args.renaming.from) c.args.renaming.to.now (listed c.args.memory.now c.args.count)) c.append_span.new.memory c.in-Some-append_span.build (let z : c.begin.result.filled < 8 = omega (arith, ap (λ (b : Build). b.filled) c.begin.ensures.value) in z) a in
     (omega (arith, far.beside.long, (beside c.args.memory.now c.begin.new.memory c.args.renaming.from c.args.renaming.to.now c.args.count (record { build = c.begin.result; from = 0 }) (memory-long c.args.memory.now c.requires.memory) c.begin.ensures.after c.begin.ensures.value refl c.requires.from.1).long, memory-long c.args.memory.now c.requires.memory), (omega (arith, far.count, a.1), far.filled))
 
-pub returns : goal.returns
-returns c =
+pub returns-clause-value : goal.returns-clause-value
+returns-clause-value c =
     replaced_all c.args.memory.now c.begin.new.memory c.args.renaming.from c.args.renaming.to.now c.args.count (record { build = c.begin.result; from = 0 }) (memory-long c.args.memory.now c.requires.memory) c.begin.ensures.after c.begin.ensures.value refl c.requires.from.1
     c.requires.bytes
     c.in-Some-append_span.build c.append_span.new.memory
     (last_appends c.args.memory.now c.begin.new.memory c.args.renaming.from c.args.renaming.to.now c.args.count (record { build = c.begin.result; from = 0 }) (memory-long c.args.memory.now c.requires.memory) c.begin.ensures.after c.begin.ensures.value refl c.requires.from.1
     c.in-Some.last c.splice_names.new.memory c.in-Some.ensures c.clip.result (c.clip.ensures.value ∙ ap (λ n. clipped c.in-Some.last.from n n) (c.len-len.ensures ∙ ap length c.current.ensures)) (Some c.in-Some-append_span.build) c.append_span.new.memory c.in-Some-append_span.ensures)
     _ _ c.finish.ensures.value c.finish.ensures.after
+
+pub returns-clause-short : goal.returns-clause-short
+returns-clause-short c =
+    replaced_short c.args.memory.now c.begin.new.memory c.args.renaming.from c.args.renaming.to.now c.args.count (record { build = c.begin.result; from = 0 }) (memory-long c.args.memory.now c.requires.memory) c.begin.ensures.after c.begin.ensures.value refl c.requires.from.1
+    c.in-Some-append_span.build c.append_span.new.memory
+    (last_appends c.args.memory.now c.begin.new.memory c.args.renaming.from c.args.renaming.to.now c.args.count (record { build = c.begin.result; from = 0 }) (memory-long c.args.memory.now c.requires.memory) c.begin.ensures.after c.begin.ensures.value refl c.requires.from.1
+    c.in-Some.last c.splice_names.new.memory c.in-Some.ensures c.clip.result (c.clip.ensures.value ∙ ap (λ n. clipped c.in-Some.last.from n n) (c.len-len.ensures ∙ ap length c.current.ensures)) (Some c.in-Some-append_span.build) c.append_span.new.memory c.in-Some-append_span.ensures)
+    _ c.finish.ensures.value

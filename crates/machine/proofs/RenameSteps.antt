@@ -1,31 +1,36 @@
 -- What the steps that rename tell, case by case, and what they leave in build area, frames and list. Assumes nothing.
-use Rattle.std.proofs.Common.{◌≡◌, ℕ, ◌+◌, ◌-◌, ◌<◌, ◌≤◌, Bool, true, false, leb, List, [], ◌∷◌, ◌++◌, length, take, drop, Some, None, Option, sym, refl, ap, ◌∙◌, subst, ap₂, arith, le-leb}
+use Rattle.std.proofs.Common.{◌≡◌, ℕ, ◌+◌, ◌<◌, ◌≤◌, Bool, true, List, [], ◌∷◌, ◌++◌, length, get_or, take, drop, Some, None, Option, sym, ap, ◌∙◌, subst, ap₂, arith, le-leb}
+use Rattle.std.specs.List.{between}
 use lib.ListN.{length-replicate}
 use borrow.Author.Tests.{lt-leb}
-use Rattle.std.proofs.lemmas.List.{append_assoc, take_at, drop_at, drop-drop, length-append, length-take-le, take-take}
-use Rattle.language.specs.Basics.{pick}
-use Rattle.language.specs.Bytes.{Name}
+use Rattle.std.proofs.lemmas.List.{append_assoc, take_at, drop_at, drop-drop, length-append, length-take, length-take-le, length-drop, take-take}
+use Rattle.language.specs.Basics.{pick, flat}
+use Rattle.language.specs.Bytes.{Name, eight, with_length}
 use Rattle.language.specs.Binders.{Binder, let_at, own_binder}
 use Rattle.language.specs.Contents.{own_names, find_function, body_of}
 use Rattle.language.specs.Names.{has}
 use Rattle.language.specs.Reading.{place_at}
-use Rattle.language.specs.Splice.{names_replaced}
+use Rattle.language.specs.Splice.{spliced_from, names_replaced}
 use Rattle.language.specs.Uses.{uses_of}
-use Rattle.language.specs.Packed.{packed}
-use Rattle.language.proofs.PackedLaws.{length_packed_words}
+use Rattle.language.proofs.PackedFacts.{length-packed}
+use Rattle.language.proofs.StandsFacts.{length-eight}
+use Rattle.expr.specs.declared.token.Span.{Span}
+use Rattle.expr.specs.Token.{spelled_in}
 use Rattle.model.specs.Capture.{others}
 use Rattle.model.specs.Engine.{done, refused, Step}
-use Rattle.memory.specs.Layout.{memory_words, memory_fits, zero_words, build_at, frames_at, reserve_at, held, listed, put_words, slot_filled, wiped, built}
+use Rattle.memory.specs.Layout.{memory_fits, zero_words, build_at, frames_at, reserve_at, slot, held, put_words, slot_filled, wiped, built}
 use Rattle.memory.specs.Build.{Beside}
-use Rattle.memory.proofs.LayoutFacts.{memory-long, front_fits}
+use Rattle.memory.proofs.LayoutFacts.{memory-long, front-held, front_fits}
 use Rattle.scope.specs.Walks.{Kept}
+use Rattle.scope.specs.Splicing.{Replaced}
 use Rattle.machine.specs.declared.told.Told.{Told}
 use Rattle.machine.specs.declared.told.Told.TheVariants.{Done, No}
 use Rattle.machine.specs.History.{committed, accepted, changed}
-use Rattle.machine.specs.Steps.{stepped, with_some}
-use Rattle.machine.specs.Rename.{renamed_step, rename_bind_step, rename_param_step}
+use Rattle.machine.specs.Machine.{stepped}
+use Rattle.machine.specs.Rename.{with_some, renamed_step, rename_bind_step, rename_param_step}
 use Rattle.machine.specs.Told.{Tells}
 use Rattle.machine.proofs.RegionFacts.{past_fits}
+use Rattle.machine.proofs.ChangeFacts.{filled_long}
 use Rattle.machine.proofs.StepFacts.{tells_no, tells_done}
 
 pub frames_cleared_fits : (m n : List ℕ) → memory_fits m ≡ true → n ≡ put_words m frames_at (zero_words 49152) → memory_fits n ≡ true
@@ -45,14 +50,46 @@ wiped-same m n front behind =
 pub kept-front : (m n : List ℕ) → Kept m n → take build_at n ≡ take build_at m
 kept-front m n k = sym (take-take build_at frames_at n (omega arith)) ∙ ap (take build_at) k.front ∙ take-take build_at frames_at m (omega arith)
 
+pub kept-held : (m n : List ℕ) → Kept m n → held 0 n ≡ held 0 m
+kept-held m n k = front-held m n (kept-front m n k) 0 (omega arith)
+
+-- what is written in the memory that the walk left is the same program with the new name
+pub kept-replaced : (m n : List ℕ) → Kept m n → (s : Span) (y : Name) (us : List ℕ) (r : Option ℕ) (l : List ℕ) →
+    Replaced n (names_replaced (held 0 n) (spelled_in (held 0 n) s) y us) r l → Replaced n (names_replaced (held 0 m) (spelled_in (held 0 m) s) y us) r l
+kept-replaced m n k s y us r l t = subst (λ bs. Replaced n (names_replaced bs (spelled_in bs s) y us) r l) (kept-held m n k) t
+
+-- a program has at least the eight bytes of its count, and one with a new name no fewer
+held_low : (m : List ℕ) → memory_fits m ≡ true → 8 ≤ length (held 0 m)
+unfolding held
+held_low m fit =
+    omega (
+      arith,
+      length-take (get_or m 2 0 + 8) (flat eight (slot 0 m)),
+      length-packed (slot 0 m),
+      length-take 8192 (drop 16 m),
+      length-drop 16 m,
+      memory-long m fit,
+    )
+
+replaced_low : (bs : List ℕ) (x y : Name) (us : List ℕ) → 8 ≤ length bs → 8 ≤ length (names_replaced bs x y us)
+unfolding spliced_from
+replaced_low bs x y [] h = h
+replaced_low bs x y (k ∷ ks) h =
+    omega (
+      arith,
+      length-append (between 0 k bs) (with_length y ++ spliced_from bs (with_length y) (8 + length x) ks (k + (8 + length x))),
+      length-append (with_length y) (spliced_from bs (with_length y) (8 + length x) ks (k + (8 + length x))),
+      length-append (eight (length y)) y,
+      length-eight (length y),
+    )
+
+pub renamed_low : (m : List ℕ) (x y : Name) (us : List ℕ) → memory_fits m ≡ true → 8 ≤ length (names_replaced (held 0 m) x y us)
+renamed_low m x y us fit = replaced_low (held 0 m) x y us (held_low m fit)
+
 pub beside_behind : (m n : List ℕ) → Beside m n → drop reserve_at n ≡ drop reserve_at m
 beside_behind m n b = sym (drop-drop 49152 frames_at n) ∙ ap (drop 49152) b.behind ∙ drop-drop 49152 frames_at m
 
 -- a program that was written, with zeros in frames and list
-filled_long : (bs : List ℕ) → length bs ≤ 65536 → length (slot_filled bs) ≡ 8192
-filled_long bs short =
-    omega (arith, length-append (packed bs) (zero_words (8192 - length (packed bs))), length_packed_words bs, length-replicate {A = ℕ} (8192 - length (packed bs)) 0)
-
 module _ (m n l bs : List ℕ) (fit : memory_fits m ≡ true) (kept : Kept m n) (short : length bs ≤ 65536) (e : l ≡ put_words n build_at (slot_filled bs)) where
   abbrev rest : List ℕ
   rest = drop (build_at + length (slot_filled bs)) n
@@ -85,9 +122,9 @@ module _ (m n l bs : List ℕ) (fit : memory_fits m ≡ true) (kept : Kept m n) 
       ∙ ap (λ k. take build_at m ++ ((slot_filled bs ++ zero_words 49152) ++ drop (build_at + k) m))
       (sym (length-append (slot_filled bs) (zero_words 49152) ∙ ap₂ ◌+◌ (filled_long bs short) (length-replicate {A = ℕ} 49152 0)))
 
-  pub accepted_changed : accepted l (length bs) ≡ changed m bs
+  pub accepted-changed : accepted l (length bs) ≡ changed m bs
   unfolding accepted changed
-  accepted_changed = ap (λ k. put_words (committed k (length bs)) build_at (zero_words 8192)) cleared_built
+  accepted-changed = ap (λ k. put_words (committed k (length bs)) build_at (zero_words 8192)) cleared_built
 
   pub written-fits : memory_fits l ≡ true
   written-fits =

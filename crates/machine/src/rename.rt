@@ -47,7 +47,7 @@ fn clear_build(memory: &mut [u64])
 
 // What stands in the build area is the current program, and the one before can be gone back to.
 fn accept(memory: &mut [u64], len: usize)
-    requires { memory_fits memory.old ≡ true }
+    requires { (memory_fits memory.old ≡ true) × (8 ≤ len) }
     ensures { memory.new ≡ accepted memory.old len }
 {
     clear_frames(memory);

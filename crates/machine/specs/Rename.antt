@@ -1,6 +1,6 @@
 -- The steps that rename what is bound: in the current program's bytes, what gives the name is found, the uses that change are listed, and the
 -- program with the new name at each is written. Total. Assumes nothing: these are definitions.
-use Rattle.std.specs.Prelude.{ℕ, List, length, nat_le}
+use Rattle.std.specs.Prelude.{ℕ, List, length, Some, None, Option, nat_le}
 use Rattle.language.specs.Basics.{pick}
 use Rattle.language.specs.Bytes.{Name}
 use Rattle.language.specs.Names.{has}
@@ -13,7 +13,12 @@ use Rattle.model.specs.Capture.{others}
 use Rattle.model.specs.Engine.{done, refused, Step}
 use Rattle.memory.specs.Layout.{held, wiped}
 use Rattle.machine.specs.History.{changed}
-use Rattle.machine.specs.Steps.{stepped, with_some}
+use Rattle.machine.specs.Machine.{stepped}
+
+-- go on with what was found, or do this
+abbrev pub with_some : {A : Type 0} → Option A → Step → (A → Step) → Step
+with_some None s f = s
+with_some (Some a) s f = f a
 
 -- a program that was written is the current one, unless it is too large
 abbrev pub written_step : List ℕ → List ℕ → Step

@@ -44,8 +44,8 @@ use Rattle.model.proofs.SpliceFacts.{names_spliced}
 use Rattle.memory.specs.Layout.{held, wiped}
 use Rattle.memory.proofs.LayoutFacts.{held-long}
 use Rattle.machine.specs.History.{changed}
-use Rattle.machine.specs.Steps.{stepped, with_some}
-use Rattle.machine.specs.Rename.{written_step, renamed_step, rename_bind_step, rename_param_step}
+use Rattle.machine.specs.Machine.{stepped}
+use Rattle.machine.specs.Rename.{with_some, written_step, renamed_step, rename_bind_step, rename_param_step}
 use Rattle.machine.proofs.HoldsFacts.{Holds, holds-wiped, holds-changed}
 use Rattle.machine.proofs.Runs.{run, run_done, run_refused, Obeys, obeys_turn}
 

@@ -13,7 +13,7 @@ use Rattle.expr.specs.Look.{smaller}
 use Rattle.memory.specs.Layout.{memory_words, zero_words, older, memory_fits, slot, held, build_at, build, slot_filled, built}
 use Rattle.machine.specs.History.{placed, committed, changed}
 use Rattle.memory.proofs.LayoutFacts.{memory-long}
-use Rattle.machine.proofs.RegionFacts.{fit_words, words_fit, held_same, slot-set, held-set, fits-counted, moved, up_is, moved_front, moved-behind, moved-held, moved-fits, past_word, past-held, past_fits, zeros-room}
+use Rattle.machine.proofs.RegionFacts.{fit_words, words_fit, held_same, slot-set, held-set, fits-counted, moved, up_is, moved_front, moved-behind, moved-held, moved-fits, past_word, past_held, past_fits, zeros_room}
 
 pub smaller_min : (a b : ℕ) → smaller a b ≡ min a b
 smaller_min a b = go (ltb a b) refl
@@ -137,7 +137,7 @@ module _ (m : List ℕ) (n : ℕ) (f : memory_fits m ≡ true) where
   committed-fits high = ap memory_fits committed_is ∙ placed-fits up n up_fits high
 
 -- a program that was written in the build area
-filled_long : (bs : List ℕ) → length bs ≤ 65536 → length (slot_filled bs) ≡ 8192
+pub filled_long : (bs : List ℕ) → length bs ≤ 65536 → length (slot_filled bs) ≡ 8192
 filled_long bs high =
     omega (
       arith,
@@ -156,7 +156,7 @@ module _ (m bs : List ℕ) (f : memory_fits m ≡ true) (high : length bs ≤ 65
 
   built-held : (k : ℕ) → k < 9 → held k (built m bs) ≡ held k m
   unfolding built
-  built-held k h = past-held m build_at (slot_filled bs ++ zero_words 49152) (omega arith) built_room f k h
+  built-held k h = past_held m build_at (slot_filled bs ++ zero_words 49152) (omega arith) built_room f k h
 
   built-older : older (built m bs) ≡ older m
   unfolding built
@@ -172,7 +172,7 @@ module _ (m bs : List ℕ) (f : memory_fits m ≡ true) (high : length bs ≤ 65
       ∙ take_at (slot_filled bs) (zero_words 49152 ++ drop (build_at + length (slot_filled bs ++ zero_words 49152)) m) 8192 (filled_long bs high)
 
   zeros_fit : build_at + length (zero_words 8192) ≤ memory_words
-  zeros_fit = zeros-room build_at 8192 (omega arith)
+  zeros_fit = zeros_room build_at 8192 (omega arith)
 
   now-fits : memory_fits (committed (built m bs) (length bs)) ≡ true
   now-fits = committed-fits (built m bs) (length bs) built-fits high
@@ -183,7 +183,7 @@ module _ (m bs : List ℕ) (f : memory_fits m ≡ true) (high : length bs ≤ 65
 
   cleared_held : (k : ℕ) → k < 9 → held k (changed m bs) ≡ held k (committed (built m bs) (length bs))
   unfolding changed
-  cleared_held k h = past-held (committed (built m bs) (length bs)) build_at (zero_words 8192) (omega arith) zeros_fit now-fits k h
+  cleared_held k h = past_held (committed (built m bs) (length bs)) build_at (zero_words 8192) (omega arith) zeros_fit now-fits k h
 
   pub changed-older : older (changed m bs) ≡ smaller 8 (older m + 1)
   unfolding changed
