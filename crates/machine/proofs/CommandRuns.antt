@@ -20,11 +20,11 @@ use Rattle.model.specs.State.{Plain, Turn, no, yes_with, at_first_fun, fine}
 use Rattle.model.specs.Model.{undone, turn}
 use Rattle.model.specs.Engine.{shows, done, refused, ran}
 use Rattle.model.proofs.StayFacts.{Sound, sound_stays}
-use Rattle.memory.specs.Layout.{memory_words, zero_words, mark, older, memory_fits, held, frames_at}
+use Rattle.memory.specs.Layout.{zero_words, mark, older, memory_fits, held, frames_at}
 use Rattle.machine.specs.History.{loaded, gone_back}
 use Rattle.machine.specs.Machine.{stepped, table_cleared, load_step, function_row, row_shown, show_step, row, name_row, name_shown, names_step, undo_step, gone_on}
 use Rattle.memory.proofs.LayoutFacts.{memory-long, held-long}
-use Rattle.machine.proofs.RegionFacts.{held-set, fits_marked, back_held, back_older, back_fits, past_fits, zeros_room, loaded-held, loaded-older, loaded-fits}
+use Rattle.machine.proofs.RegionFacts.{held-set, fits_marked, back_held, back_older, back_fits, cleared_fits, zeros_room, loaded-held, loaded-older, loaded-fits}
 use Rattle.machine.proofs.HoldsFacts.{Holds, holds_marked, holds_past}
 use Rattle.machine.proofs.Runs.{run, run_done, run_refused, run_row, Obeys, obeys_turn}
 
@@ -65,8 +65,8 @@ unfolding load_step
 load_at m bs t e = ap (λ b. pick b (stepped (loaded (table_cleared m) bs) done) (stepped (table_cleared m) (refused 4))) e
 
 -- a table in the frames leaves header and slots as they were
-cleared_room : frames_at + length (zero_words 2048) ≤ memory_words
-cleared_room = zeros_room frames_at 2048 (omega arith)
+holds_cleared : (m : List ℕ) (w : Plain) → Holds m w → Holds (table_cleared m) w
+holds_cleared m w h = holds_past m w frames_at (zero_words 2048) (omega arith) (zeros_room frames_at 2048 (omega arith)) h
 
 holds-loaded : (m : List ℕ) (w : Plain) (p : Program) → a_program p ≡ true → memory_fits m ≡ true → Sound (record { now = p; before = [] }) → Holds (loaded m (program_spelled p)) (record { now = p; before = [] })
 holds-loaded m w p fit f s =
@@ -89,11 +89,11 @@ obeys_load m w p fit h = go (fine p) refl
         obeys_turn w (load p) (load_step m (program_spelled p)) (yes_with [] (record { now = p; before = [] })) 0 (loaded (table_cleared m) (program_spelled p))
         (ap (λ b. pick b (yes_with [] (record { now = p; before = [] })) (no 4 w)) e)
         (ap (λ s. run 0 s []) (load_at m (program_spelled p) true (fine_law p fit ∙ e)) ∙ run_done 0 (loaded (table_cleared m) (program_spelled p)) [])
-        (holds-loaded (table_cleared m) w p fit (past_fits m frames_at (zero_words 2048) (omega arith) cleared_room h.fits)
+        (holds-loaded (table_cleared m) w p fit (cleared_fits m h.fits)
         (subst (λ (u : Turn). Sound u.next) (ap (λ b. pick b (yes_with [] (record { now = p; before = [] })) (no 4 w)) e) (sound_stays w (load p) fit h.sound)))
     go false e =
         obeys_turn w (load p) (load_step m (program_spelled p)) (no 4 w) 0 (table_cleared m) (ap (λ b. pick b (yes_with [] (record { now = p; before = [] })) (no 4 w)) e)
-        (ap (λ s. run 0 s []) (load_at m (program_spelled p) false (fine_law p fit ∙ e)) ∙ run_refused 0 (table_cleared m) 4 []) (holds_past m w frames_at (zero_words 2048) (omega arith) cleared_room h)
+        (ap (λ s. run 0 s []) (load_at m (program_spelled p) false (fine_law p fit ∙ e)) ∙ run_refused 0 (table_cleared m) 4 []) (holds_cleared m w h)
 
 -- GOING ON: from where the mark says
 on_at : (n : List ℕ) (k : ℕ) → mark n ≡ k + 1 → gone_on n ≡ names_step n k

@@ -11,8 +11,9 @@ use Rattle.language.specs.Packed.{packed}
 use Rattle.language.proofs.ListFacts.{every_from, every-at, take_past}
 use Rattle.language.proofs.PackedLaws.{length_packed_words, packed-flat}
 use Rattle.language.proofs.PasteFacts.{part_same, paste_low, paste_mid, paste_high}
-use Rattle.memory.specs.Layout.{memory_words, zero_words, mark, older, lengths, lengths_fit, memory_fits, slot, held, build_at, put_words}
+use Rattle.memory.specs.Layout.{memory_words, zero_words, mark, older, lengths, lengths_fit, memory_fits, slot, held, build_at, frames_at, put_words}
 use Rattle.machine.specs.History.{loaded, moved_down, moved_up, gone_back}
+use Rattle.machine.specs.Machine.{table_cleared}
 use Rattle.memory.proofs.LayoutFacts.{memory-long, older-few}
 
 -- a memory that fits, word by word
@@ -185,6 +186,30 @@ moved-fits m a b to from f =
         let is : k - a + a ≡ k = omega (arith, ltb-false k a e) in
         subst (λ j. get_or (moved a b m) (2 + j) 0 ≤ 65528) is (omega (arith, moved_length m long a b to from (k - a) low, w.short (k - a + b) (omega arith)))
 
+-- moved down by one: each program is the one before it, and the last stays
+module _ (m : List ℕ) (long : length m ≡ memory_words) where
+  pub down_front : (i : ℕ) → i < 2 → get_or (moved_down m) i 0 ≡ get_or m i 0
+  down_front i h = ap (λ l. get_or l i 0) (down_is m) ∙ moved_front m long 0 1 (omega arith) (omega arith) i (omega arith)
+
+  pub down_length : (k : ℕ) → k < 8 → get_or (moved_down m) (2 + k) 0 ≡ get_or m (2 + suc k) 0
+  down_length k h =
+      ap₂ (λ l i. get_or l i 0) (down_is m) (let z : 2 + k ≡ 2 + (k + 0) = omega arith in z)
+      ∙ moved_length m long 0 1 (omega arith) (omega arith) k h ∙ ap (λ i. get_or m i 0) (let z : 2 + (k + 1) ≡ 2 + suc k = omega arith in z)
+
+  pub down_last : get_or (moved_down m) 10 0 ≡ get_or m 10 0
+  down_last = ap (λ l. get_or l 10 0) (down_is m) ∙ moved_last m long 0 1 (omega arith) (omega arith) 10 (omega arith) (omega arith)
+
+  pub down_long : length (moved_down m) ≡ memory_words
+  down_long = ap length (down_is m) ∙ moved-long m long 0 1 (omega arith) (omega arith)
+
+  pub down_slot : (k : ℕ) → k < 8 → slot k (moved_down m) ≡ slot (suc k) m
+  down_slot k h =
+      ap₂ slot (let z : k ≡ k + 0 = omega arith in z) (down_is m) ∙ moved-slot m long 0 1 (omega arith) (omega arith) k h
+      ∙ ap (λ j. slot j m) (let z : k + 1 ≡ suc k = omega arith in z)
+
+  pub down_held : (k : ℕ) → k < 8 → held k (moved_down m) ≡ held (suc k) m
+  down_held k h = ap (held k) (down_is m) ∙ moved-held m long 0 1 (omega arith) (omega arith) k k (suc k) h (omega arith) (omega arith)
+
 -- going back
 module _ (m : List ℕ) (f : memory_fits m ≡ true) where
   counted-long : (v : ℕ) → length (set m 1 v) ≡ memory_words
@@ -251,6 +276,29 @@ module _ (m : List ℕ) (i : ℕ) (ws : List ℕ) (past : build_at ≤ i) (room 
 -- so many zeros have room where so many words do
 pub zeros_room : (i n : ℕ) → i + n ≤ memory_words → i + length (zero_words n) ≤ memory_words
 zeros_room i n h = omega (arith, h, length-replicate {A = ℕ} n 0)
+
+-- a table in the frames leaves header and slots as they were
+pub cleared_long : (m : List ℕ) → length m ≡ memory_words → length (table_cleared m) ≡ memory_words
+cleared_long m long = put_long m frames_at (zero_words 2048) (omega (arith, long)) ∙ long
+
+pub cleared_word : (m : List ℕ) → length m ≡ memory_words → (k : ℕ) → k < frames_at → get_or (table_cleared m) k 0 ≡ get_or m k 0
+cleared_word m long k h = put_low m frames_at (zero_words 2048) (omega (arith, long)) k h
+
+pub cleared_held : (m : List ℕ) → length m ≡ memory_words → (k : ℕ) → k < 9 → held k (table_cleared m) ≡ held k m
+cleared_held m long k h =
+    held_same m (table_cleared m) k k (cleared_word m long (2 + k) (omega arith))
+    (part_same (table_cleared m) m (16 + k * 8192) (16 + k * 8192) 8192 (omega (arith, cleared_long m long)) (omega (arith, long)) (λ j l. cleared_word m long (16 + k * 8192 + j) (omega arith)))
+
+pub cleared_fits : (m : List ℕ) → memory_fits m ≡ true → memory_fits (table_cleared m) ≡ true
+cleared_fits m f =
+    let w = fit_words m f in
+    words_fit (table_cleared m)
+    (record {
+      long = cleared_long m w.long;
+      mark_low = omega (arith, cleared_word m w.long 0 (omega arith), w.mark_low);
+      few = omega (arith, cleared_word m w.long 1 (omega arith), w.few);
+      short = λ k l. omega (arith, cleared_word m w.long (2 + k) (omega arith), w.short k l);
+    })
 
 -- a program that is loaded is held
 module _ (m : List ℕ) (bs : List ℕ) (f : memory_fits m ≡ true) (low : 8 ≤ length bs) (high : length bs ≤ 65536) (bytes : all_bytes bs ≡ true) where

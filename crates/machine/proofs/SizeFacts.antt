@@ -11,8 +11,9 @@ use Rattle.language.proofs.StandsFacts.{stands_in}
 use Rattle.language.proofs.ProgramFacts.{fun_reads, fun-long}
 use Rattle.language.proofs.PackedLaws.{length_packed_words, packed-small}
 use Rattle.model.specs.Engine.{all_small}
-use Rattle.memory.specs.Layout.{memory_words, zero_words, older, memory_fits, held, build_at, put_words, slot_filled, wiped, built}
+use Rattle.memory.specs.Layout.{memory_words, zero_words, older, memory_fits, held, build_at, frames_at, put_words, slot_filled, wiped, built}
 use Rattle.expr.specs.Look.{smaller}
+use Rattle.machine.specs.Machine.{table_cleared}
 use Rattle.machine.specs.History.{loaded, moved_down, gone_back, moved_up, placed, committed, changed}
 use Rattle.memory.proofs.LayoutFacts.{memory-long, older-few, held-long, held_bytes}
 use Rattle.machine.proofs.RegionFacts.{fits-counted, moved, down_is, up_is, moved-long, moved-fits, put_long, past_long, zeros_room}
@@ -70,6 +71,10 @@ size_past m i ws past room words f =
 pub size_zeros : (m : List ℕ) (i n : ℕ) → build_at ≤ i → i + n ≤ memory_words → memory_fits m ≡ true → KeepsSize m (put_words m i (zero_words n))
 size_zeros m i n past room f = size_past m i (zero_words n) past (zeros_room i n room) (small_zeros n) f
 
+-- a table in the frames
+pub size_cleared : (m : List ℕ) → memory_fits m ≡ true → KeepsSize m (table_cleared m)
+size_cleared m f = size_zeros m frames_at 2048 (omega arith) (omega arith) f
+
 -- lengths and slots moved by one
 pub size_moved : (m : List ℕ) (a b : ℕ) → a ≤ 1 → b ≤ 1 → length m ≡ memory_words → KeepsSize m (moved a b m)
 unfolding moved
@@ -82,14 +87,16 @@ size_moved m a b to from long =
           small-paste n (16 + a * 8192) (drop (16 + b * 8192) n) 65536 s (small-drop (16 + b * 8192) n s);
     }
 
+pub size_down : (m : List ℕ) → length m ≡ memory_words → KeepsSize m (moved_down m)
+size_down m long = subst (KeepsSize m) (sym (down_is m)) (size_moved m 0 1 (omega arith) (omega arith) long)
+
 -- going back
 pub size_back : (m : List ℕ) → memory_fits m ≡ true → KeepsSize m (gone_back m)
 unfolding gone_back
 size_back m f =
     let one = size_set m 1 (older m - 1) (omega (arith, older-few m f)) in
     size_then m (set m 1 (older m - 1)) (moved_down (set m 1 (older m - 1))) one
-    (subst (KeepsSize (set m 1 (older m - 1))) (sym (down_is (set m 1 (older m - 1))))
-    (size_moved (set m 1 (older m - 1)) 0 1 (omega arith) (omega arith) (one.long ∙ memory-long m f)))
+    (size_down (set m 1 (older m - 1)) (one.long ∙ memory-long m f))
 
 packed_words_small : (bs : List ℕ) → all_bytes bs ≡ true → all_small (packed bs) ≡ true
 unfolding all_small

@@ -20,13 +20,13 @@ use Rattle.model.specs.Capture.{others}
 use Rattle.model.specs.Engine.{Event, said, next, refused, done, Step, Steady}
 use Rattle.model.specs.Reading.{Ask, loading, asking, Asks, asked}
 use Rattle.model.proofs.AskedFacts.{asked-said}
-use Rattle.memory.specs.Layout.{zero_words, mark, older, memory_fits, held, frames_at, wiped}
+use Rattle.memory.specs.Layout.{zero_words, mark, older, memory_fits, held, wiped}
 use Rattle.machine.specs.History.{loaded, gone_back, changed}
 use Rattle.machine.specs.Rename.{with_some, written_step, renamed_step, rename_bind_step, rename_param_step}
 use Rattle.machine.specs.Machine.{stepped, table_cleared, load_step, function_row, row_shown, show_step, Row, row, name_row, name_shown, names_step, undo_step, command_step, obeyed, gone_on, by_event, step_of, own}
 use Rattle.memory.proofs.LayoutFacts.{memory-long, held_bytes}
 use Rattle.machine.proofs.RegionFacts.{fits_marked}
-use Rattle.machine.proofs.SizeFacts.{KeepsSize, size_refl, size_then, size_set, size_zeros, size_back, size_loaded, size_wiped, size_changed, fun_within}
+use Rattle.machine.proofs.SizeFacts.{KeepsSize, size_refl, size_then, size_set, size_cleared, size_back, size_loaded, size_wiped, size_changed, fun_within}
 
 pub record SpellsProgram (bs : List ℕ) : Type 0 where
   pub low : 8 ≤ length bs
@@ -41,18 +41,15 @@ asked_bytes text bs e =
     let s = program_short p.0 p.2 in
     subst SpellsProgram p.1 (record { low = s.0; high = s.1; bytes = bytes_program p.0 p.2 })
 
-cleared_size : (m : List ℕ) → memory_fits m ≡ true → KeepsSize m (table_cleared m)
-cleared_size m f = size_zeros m frames_at 2048 (omega arith) (omega arith) f
-
 load_size : (m bs : List ℕ) → memory_fits m ≡ true → SpellsProgram bs → KeepsSize m (load_step m bs).memory
 unfolding load_step
 load_size m bs f s = go (is_fine bs)
   where
     go : (t : Bool) → KeepsSize m (pick t (stepped (loaded (table_cleared m) bs) done) (stepped (table_cleared m) (refused 4))).memory
     go true =
-        size_then m (table_cleared m) (loaded (table_cleared m) bs) (cleared_size m f)
-        (size_loaded (table_cleared m) bs ((cleared_size m f).long ∙ memory-long m f) s.high s.bytes)
-    go false = cleared_size m f
+        size_then m (table_cleared m) (loaded (table_cleared m) bs) (size_cleared m f)
+        (size_loaded (table_cleared m) bs ((size_cleared m f).long ∙ memory-long m f) s.high s.bytes)
+    go false = size_cleared m f
 
 show_size : (m : List ℕ) (x : Name) → KeepsSize m (show_step m x).memory
 unfolding show_step
