@@ -21,6 +21,8 @@ KEYS = ("bug", "crate", "file", "old", "new")
 # An error that says no more than that a proof file names what the changed code does not have.
 UNFIT = re.compile(r"that can be named from here|has no field|is not in scope")
 ERROR = re.compile(r"^(?:so far: )?\./(\S+)\.antt:\d+:\d+: error: (?:`([^`]+)`: )?(.*)", re.M)
+# A goal that no answer is written for, and that the check did not prove by itself.
+OPEN = re.compile(r"^(?:so far: )?note: src/(\w+)\.rt:(\d+):\d+: it is not proved .*?\(`([^`]+)`\)", re.M)
 
 
 def read_bug(path):
@@ -37,22 +39,31 @@ def ticked(names):
     return ", ".join(f"`{name}`" for name in dict.fromkeys(names))
 
 
-def unmet(log):
+def source_of(crate, module):
+    return (ROOT / "crates" / crate / "src" / module).with_suffix(".rt").read_text()
+
+
+def function_at(crate, module, line):
+    """The function of a module whose text has this line."""
+    above = "\n".join(source_of(crate, module).split("\n")[:line])
+    return f"{module}::" + re.findall(r"^ *(?:pub )?fn (\w+)", above, re.M)[-1]
+
+
+def unmet(crate, log):
     """The goals that are no longer proved, by function; a function that fails only through one that it calls has none."""
     goals = {}
     for path, goal, why in ERROR.findall(log):
         if goal and path.endswith("/Answers") and not UNFIT.search(why):
             goals.setdefault(path.removeprefix("proofs/").removesuffix("/Answers").replace("/", "::"), []).append(goal)
-    for function, left in re.findall(r"^(?:so far: )?fn [^:]+::(\S+): .*`search` did not prove ([^;\n]*)", log, re.M):
-        goals.setdefault(function, []).extend(re.findall(r"`([^`]+)`", left))
+    for module, line, goal in OPEN.findall(log):
+        goals.setdefault(function_at(crate, module, int(line)), []).append(goal)
     return goals
 
 
 def clauses(crate, function, goals):
     """The clauses of a function that these goals name, or else all."""
-    *module, name = function.split("::")
-    source = (ROOT / "crates" / crate / "src" / (module or ["lib"])[0]).with_suffix(".rt").read_text()
-    head = re.search(rf"fn {name}\b((?:(?!\bfn ).)*?)^ *\{{$", source, re.S | re.M)
+    module, *_, name = function.split("::")
+    head = re.search(rf"fn {name}\b((?:(?!\bfn ).)*?)^ *\{{$", source_of(crate, module), re.S | re.M)
     found = re.findall(r"^ *ensures (?:(\w+) )?\{ (.*) \}$", head.group(1) if head else "", re.M)
     named = [text for name, text in found if any(goal.endswith(f"-clause-{name}") for goal in goals)]
     return ticked(named or [text for _, text in found]) or "?"
@@ -60,8 +71,9 @@ def clauses(crate, function, goals):
 
 def in_code(bug, log):
     """The row of a bug in the code, and whether it was not caught."""
-    caught = [f"`{function}`: {clauses(bug['crate'], function, goals)} ({ticked(goals)})" for function, goals in unmet(log).items()]
-    return f"{bug['crate']} | {'; '.join(caught) or 'NO GOAL NAMED'}", not caught
+    crate = bug["crate"]
+    caught = [f"`{function}`: {clauses(crate, function, goals)} ({ticked(goals)})" for function, goals in unmet(crate, log).items()]
+    return f"{crate} | {'; '.join(caught) or 'NO GOAL NAMED'}", not caught
 
 
 def in_definitions(bug, text, log):
