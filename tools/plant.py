@@ -12,6 +12,7 @@ refused but names that the changed code no longer has, or where another lemma is
 """
 import pathlib
 import re
+import signal
 import subprocess
 import sys
 
@@ -126,6 +127,8 @@ def lowest_first(paths):
 
 
 def main():
+    for end in (signal.SIGTERM, signal.SIGHUP):
+        signal.signal(end, lambda *_: sys.exit("stopped"))  # so that the edit is taken out all the same
     paths = [PLANTED / f"{name}.txt" for name in sys.argv[1:]] or lowest_first(PLANTED.glob("*.txt"))
     survivors = sum([plant(path) for path in paths])
     sys.exit(1 if survivors else 0)
