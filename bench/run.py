@@ -1,7 +1,7 @@
 #!/usr/bin/env python3
 """How long commands take on the largest programs.
 
-    rt check replay && python3 bench/run.py
+    (cd crates/replay && rt run -- data/history.txt >/dev/null) && python3 bench/run.py
 
 Plays sessions of many equal commands and prints a table. A time is that of a command as the player has it: its line is read, the machine
 takes all its steps, and the answer is printed. What only lines and printing cost is in the rows of commands that are refused at once.
@@ -22,7 +22,7 @@ from commands import Load, Names, Show, Undo, spelled  # noqa: E402
 from expressions import MOST_FUNCTIONS, Function, Num  # noqa: E402
 from model import run_deep  # noqa: E402
 
-PLAYER = ROOT / "target" / "bin" / "replay"
+PLAYER = ROOT / "crates" / "replay" / "out" / "replay"
 ROUNDS = 3
 
 
