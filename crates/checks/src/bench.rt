@@ -1,5 +1,5 @@
 // A machine on the bench: it is lent a memory and a row of any lengths, and what a step did to them is looked at.
-ghost use Rattle.std.specs.Prelude.{OnOk, IsTrue};
+ghost use Rattle.std.specs.Prelude.{◌≡◌, is_ok};
 
 use machine::step::{GO_ON, ROW_BYTES, SAID, step};
 use machine::told::Told;
@@ -12,7 +12,7 @@ const UNTOUCHED: u8 = 0xaa;
 
 // The test fails with this message, unless the fact holds.
 fn check(holds: bool, otherwise: &str) -> Result<(), Fail>
-    ensures { OnOk result (IsTrue holds) }
+    ensures { is_ok result ≡ holds }
 {
     if holds {
         return Ok(());

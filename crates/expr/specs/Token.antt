@@ -84,10 +84,6 @@ HasName (Let s) = s.from < s.to
 HasName If = Unit {0}
 HasName Tell = Unit {0}
 
-abbrev pub IsNamed : Option code.Token → Type 0
-IsNamed None = Unit {0}
-IsNamed (Some t) = HasName t.kind
-
 abbrev pub token_end : Option code.Token → Option ℕ
 token_end None = None
 token_end (Some t) = Some t.end

@@ -1,7 +1,7 @@
 // Nodes of an expression, with who holds them.
-ghost use Rattle.std.specs.Prelude.{◌≡◌, ◌+◌, length};
+ghost use Rattle.std.specs.Prelude.{◌≡◌, ◌+◌, length, IfSome};
 ghost use Rattle.expr.specs.Node.{node_token, HeldBy};
-ghost use Rattle.expr.specs.Token.{told, token_end, IsNamed, Lies, Within};
+ghost use Rattle.expr.specs.Token.{told, token_end, HasName, Lies, Within};
 ghost use Rattle.language.specs.Reading.{head_at};
 
 use crate::source::Source;
@@ -28,7 +28,7 @@ pub fn read_node<S: Source>(src: &S, at: usize, holder: Option<Holder>) -> Optio
     ensures value { told (S.bytes src.now) (node_token result) ≡ head_at (S.bytes src.now) at }
     ensures within { Within (at + 1) (token_end (node_token result)) (length (S.bytes src.now)) }
     ensures lies { Lies (at + 1) (node_token result) }
-    ensures named { IsNamed (node_token result) }
+    ensures named { IfSome result (λ n. HasName n.kind) }
     ensures held { HeldBy holder result }
 {
     let Some(token) = read_token(src, at) else {

@@ -1,6 +1,6 @@
 // Numbers, names and heads: what stands at a place in a row of bytes, and where it ends.
-ghost use Rattle.std.specs.Prelude.{◌≡◌, ◌+◌, length, Some, None, nat_lt};
-ghost use Rattle.expr.specs.Token.{told, operator_read, token_end, IsNamed, Lies, Room, Within};
+ghost use Rattle.std.specs.Prelude.{◌≡◌, ◌+◌, length, Some, None, nat_lt, IfSome};
+ghost use Rattle.expr.specs.Token.{told, operator_read, token_end, HasName, Lies, Room, Within};
 ghost use Rattle.language.specs.Basics.{pick};
 ghost use Rattle.language.specs.Heads.{h_var, h_bind};
 ghost use Rattle.language.specs.Reading.{number_at, name_end, num_at, bin_at, call_at, named_at, head_at};
@@ -95,7 +95,7 @@ fn number_token<S: Source>(src: &S, at: usize) -> Option<Token>
     ensures value { told (S.bytes src.now) result ≡ num_at (S.bytes src.now) at }
     ensures within { Within at (token_end result) (length (S.bytes src.now)) }
     ensures lies { Lies at result }
-    ensures named { IsNamed result }
+    ensures named { IfSome result (λ t. HasName t.kind) }
 {
     let Some(n) = number(src, at) else {
         return None;
@@ -127,7 +127,7 @@ fn binary_token<S: Source>(src: &S, at: usize) -> Option<Token>
     ensures value { told (S.bytes src.now) result ≡ bin_at (S.bytes src.now) at }
     ensures within { Within at (token_end result) (length (S.bytes src.now)) }
     ensures lies { Lies at result }
-    ensures named { IsNamed result }
+    ensures named { IfSome result (λ t. HasName t.kind) }
 {
     if at >= src.len() {
         return None;
@@ -145,7 +145,7 @@ fn call_token<S: Source>(src: &S, at: usize) -> Option<Token>
     ensures value { told (S.bytes src.now) result ≡ call_at (S.bytes src.now) at }
     ensures within { Within at (token_end result) (length (S.bytes src.now)) }
     ensures lies { Lies at result }
-    ensures named { IsNamed result }
+    ensures named { IfSome result (λ t. HasName t.kind) }
 {
     let Some(to) = skip_name(src, at) else {
         return None;
@@ -167,7 +167,7 @@ fn name_token<S: Source>(src: &S, at: usize) -> Option<Token>
     ensures value { told (S.bytes src.now) result ≡ named_at h_var (S.bytes src.now) at }
     ensures within { Within at (token_end result) (length (S.bytes src.now)) }
     ensures lies { Lies at result }
-    ensures named { IsNamed result }
+    ensures named { IfSome result (λ t. HasName t.kind) }
 {
     let Some(to) = skip_name(src, at) else {
         return None;
@@ -182,7 +182,7 @@ fn let_token<S: Source>(src: &S, at: usize) -> Option<Token>
     ensures value { told (S.bytes src.now) result ≡ named_at h_bind (S.bytes src.now) at }
     ensures within { Within at (token_end result) (length (S.bytes src.now)) }
     ensures lies { Lies at result }
-    ensures named { IsNamed result }
+    ensures named { IfSome result (λ t. HasName t.kind) }
 {
     let Some(to) = skip_name(src, at) else {
         return None;
@@ -198,7 +198,7 @@ pub fn read_token<S: Source>(src: &S, at: usize) -> Option<Token>
     ensures value { told (S.bytes src.now) result ≡ head_at (S.bytes src.now) at }
     ensures within { Within (at + 1) (token_end result) (length (S.bytes src.now)) }
     ensures lies { Lies (at + 1) result }
-    ensures named { IsNamed result }
+    ensures named { IfSome result (λ t. HasName t.kind) }
 {
     if at >= src.len() {
         return None;

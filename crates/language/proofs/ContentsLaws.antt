@@ -155,7 +155,7 @@ module _ (bs : List ℕ) (bytes : all_bytes bs ≡ true) where
           ∙ ih h
 
 -- f was found by the name x, among functions that stand at i: where it stands, and which come before and after it
-pub record Found_at (bs : List ℕ) (x : Name) (i : ℕ) (fs : List Fun) (f : Fun) : Type 0 where
+pub record FoundAt (bs : List ℕ) (x : Name) (i : ℕ) (fs : List Fun) (f : Fun) : Type 0 where
   pub at : ℕ
   pub found : find_from (length fs) bs x i ≡ Some at
   pub stands : Stands bs at (fun_spelled f)
@@ -166,7 +166,7 @@ pub record Found_at (bs : List ℕ) (x : Name) (i : ℕ) (fs : List Fun) (f : Fu
   pub at_is : at ≡ i + length (flat fun_spelled before)
 
 module _ (bs : List ℕ) (bytes : all_bytes bs ≡ true) (x : Name) where
-  found_first : (i : ℕ) (f : Fun) (fs : List Fun) → NextFun bs i f fs → same f.name x ≡ true → Found_at bs x i (f ∷ fs) f
+  found_first : (i : ℕ) (f : Fun) (fs : List Fun) → NextFun bs i f fs → same f.name x ≡ true → FoundAt bs x i (f ∷ fs) f
   found_first i f fs n e =
       record {
         at = i;
@@ -179,7 +179,7 @@ module _ (bs : List ℕ) (bytes : all_bytes bs ≡ true) (x : Name) where
         at_is = sym (add-zero i);
       }
 
-  found_later : (i : ℕ) (g f : Fun) (fs : List Fun) → NextFun bs i g fs → same g.name x ≡ false → Found_at bs x (i + length (fun_spelled g)) fs f → Found_at bs x i (g ∷ fs) f
+  found_later : (i : ℕ) (g f : Fun) (fs : List Fun) → NextFun bs i g fs → same g.name x ≡ false → FoundAt bs x (i + length (fun_spelled g)) fs f → FoundAt bs x i (g ∷ fs) f
   found_later i g f fs n e r =
       record {
         at = r.at;
@@ -196,7 +196,7 @@ module _ (bs : List ℕ) (bytes : all_bytes bs ≡ true) (x : Name) where
       }
 
   pub find_law_some : (i : ℕ) (fs : List Fun) (f : Fun) (gs : List Fun) → every a_fun fs ≡ true → Stands bs i (flat fun_spelled fs) → fun_of fs x ≡ f ∷ gs →
-      Found_at bs x i fs f
+      FoundAt bs x i fs f
   unfolding fun_of
   find_law_some i [] f gs fit s h = let z : ◌≡◌ {A = ℕ} 0 1 = cc in absurd (omega arith)
   find_law_some i (g ∷ fs) f gs fit s h = go (same g.name x) refl h (find_law_some (i + length (fun_spelled g)) fs f gs n.rest_fit n.after)
@@ -205,8 +205,8 @@ module _ (bs : List ℕ) (bytes : all_bytes bs ≡ true) (x : Name) where
       n = next-fun bs bytes i g fs fit s
 
       go : (t : Bool) → same g.name x ≡ t → pick t (g ∷ []) (fun_of fs x) ≡ f ∷ gs →
-          (fun_of fs x ≡ f ∷ gs → Found_at bs x (i + length (fun_spelled g)) fs f) → Found_at bs x i (g ∷ fs) f
-      go true e h ih = let is : g ≡ f = cc in subst (Found_at bs x i (g ∷ fs)) is (found_first i g fs n e)
+          (fun_of fs x ≡ f ∷ gs → FoundAt bs x (i + length (fun_spelled g)) fs f) → FoundAt bs x i (g ∷ fs) f
+      go true e h ih = let is : g ≡ f = cc in subst (FoundAt bs x i (g ∷ fs)) is (found_first i g fs n e)
       go false e h ih = found_later i g f fs n e (ih h)
 
 -- whole programs
@@ -226,7 +226,7 @@ module _ (p : Program) (fit : a_program p ≡ true) where
 
 -- f was found by the name x in the spelling of p
 pub record FoundIn (p : Program) (x : Name) (f : Fun) : Type 0 where
-  pub place : Found_at (program_spelled p) x 8 p f
+  pub place : FoundAt (program_spelled p) x 8 p f
   pub found : find_function (program_spelled p) x ≡ Some place.at
   pub ends : fun_end (program_spelled p) place.at ≡ Some (place.at + length (fun_spelled f))
   pub bytes : between place.at (place.at + length (fun_spelled f)) (program_spelled p) ≡ fun_spelled f

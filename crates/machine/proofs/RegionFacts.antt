@@ -208,30 +208,27 @@ module _ (m : List ℕ) (long : length m ≡ memory_words) where
       ∙ ap (λ j. slot j m) (let z : k + 1 ≡ suc k = omega arith in z)
 
   pub down_held : (k : ℕ) → k < 8 → held k (moved_down m) ≡ held (suc k) m
-  down_held k h = ap (held k) (down_is m) ∙ moved-held m long 0 1 (omega arith) (omega arith) k k (suc k) h (omega arith) (omega arith)
+  down_held k h = held_same m (moved_down m) k (suc k) (down_length k h) (down_slot k h)
 
 -- going back
 module _ (m : List ℕ) (f : memory_fits m ≡ true) where
   counted-long : (v : ℕ) → length (set m 1 v) ≡ memory_words
   counted-long v = length-set m 1 v ∙ memory-long m f
 
-  back_is : gone_back m ≡ moved 0 1 (set m 1 (older m - 1))
-  unfolding gone_back
-  back_is = down_is (set m 1 (older m - 1))
-
   pub back_held : (k : ℕ) → k < 8 → held k (gone_back m) ≡ held (suc k) m
-  back_held k h =
-      ap (held k) back_is ∙ moved-held (set m 1 (older m - 1)) (counted-long (older m - 1)) 0 1 (omega arith) (omega arith) k k (suc k) h (omega arith) (omega arith)
-      ∙ held-set m 1 (older m - 1) (suc k) (omega arith) (omega arith)
+  unfolding gone_back
+  back_held k h = down_held (set m 1 (older m - 1)) (counted-long (older m - 1)) k h ∙ held-set m 1 (older m - 1) (suc k) (omega arith) (omega arith)
 
   pub back_older : older (gone_back m) ≡ older m - 1
+  unfolding gone_back
   back_older =
-      ap older back_is ∙ moved_front (set m 1 (older m - 1)) (counted-long (older m - 1)) 0 1 (omega arith) (omega arith) 1 (omega arith)
+      down_front (set m 1 (older m - 1)) (counted-long (older m - 1)) 1 (omega arith)
       ∙ get_or-set_same m 1 (older m - 1) 0 (omega (arith, memory-long m f))
 
   pub back_fits : memory_fits (gone_back m) ≡ true
+  unfolding gone_back
   back_fits =
-      ap memory_fits back_is
+      ap memory_fits (down_is (set m 1 (older m - 1)))
       ∙ moved-fits (set m 1 (older m - 1)) 0 1 (omega arith) (omega arith) (fits-counted m (older m - 1) (omega (arith, older-few m f)) f)
 
 -- words put over others, as a copy of all of them
@@ -276,29 +273,6 @@ module _ (m : List ℕ) (i : ℕ) (ws : List ℕ) (past : build_at ≤ i) (room 
 -- so many zeros have room where so many words do
 pub zeros_room : (i n : ℕ) → i + n ≤ memory_words → i + length (zero_words n) ≤ memory_words
 zeros_room i n h = omega (arith, h, length-replicate {A = ℕ} n 0)
-
--- a table in the frames leaves header and slots as they were
-pub cleared_long : (m : List ℕ) → length m ≡ memory_words → length (table_cleared m) ≡ memory_words
-cleared_long m long = put_long m frames_at (zero_words 2048) (omega (arith, long)) ∙ long
-
-pub cleared_word : (m : List ℕ) → length m ≡ memory_words → (k : ℕ) → k < frames_at → get_or (table_cleared m) k 0 ≡ get_or m k 0
-cleared_word m long k h = put_low m frames_at (zero_words 2048) (omega (arith, long)) k h
-
-pub cleared_held : (m : List ℕ) → length m ≡ memory_words → (k : ℕ) → k < 9 → held k (table_cleared m) ≡ held k m
-cleared_held m long k h =
-    held_same m (table_cleared m) k k (cleared_word m long (2 + k) (omega arith))
-    (part_same (table_cleared m) m (16 + k * 8192) (16 + k * 8192) 8192 (omega (arith, cleared_long m long)) (omega (arith, long)) (λ j l. cleared_word m long (16 + k * 8192 + j) (omega arith)))
-
-pub cleared_fits : (m : List ℕ) → memory_fits m ≡ true → memory_fits (table_cleared m) ≡ true
-cleared_fits m f =
-    let w = fit_words m f in
-    words_fit (table_cleared m)
-    (record {
-      long = cleared_long m w.long;
-      mark_low = omega (arith, cleared_word m w.long 0 (omega arith), w.mark_low);
-      few = omega (arith, cleared_word m w.long 1 (omega arith), w.few);
-      short = λ k l. omega (arith, cleared_word m w.long (2 + k) (omega arith), w.short k l);
-    })
 
 -- a program that is loaded is held
 module _ (m : List ℕ) (bs : List ℕ) (f : memory_fits m ≡ true) (low : 8 ≤ length bs) (high : length bs ≤ 65536) (bytes : all_bytes bs ≡ true) where
@@ -362,3 +336,18 @@ module _ (m : List ℕ) (bs : List ℕ) (f : memory_fits m ≡ true) (low : 8 �
         few = omega (arith, loaded-older);
         short = loaded_short;
       })
+
+-- a table in the frames leaves header and slots as they were
+pub cleared_long : (m : List ℕ) → length m ≡ memory_words → length (table_cleared m) ≡ memory_words
+cleared_long m long = put_long m frames_at (zero_words 2048) (omega (arith, long)) ∙ long
+
+pub cleared_word : (m : List ℕ) → length m ≡ memory_words → (k : ℕ) → k < frames_at → get_or (table_cleared m) k 0 ≡ get_or m k 0
+cleared_word m long k h = put_low m frames_at (zero_words 2048) (omega (arith, long)) k h
+
+pub cleared_held : (m : List ℕ) → length m ≡ memory_words → (k : ℕ) → k < 9 → held k (table_cleared m) ≡ held k m
+cleared_held m long k h =
+    held_same m (table_cleared m) k k (cleared_word m long (2 + k) (omega arith))
+    (part_same (table_cleared m) m (16 + k * 8192) (16 + k * 8192) 8192 (omega (arith, cleared_long m long)) (omega (arith, long)) (λ j l. cleared_word m long (16 + k * 8192 + j) (omega arith)))
+
+pub cleared_fits : (m : List ℕ) → memory_fits m ≡ true → memory_fits (table_cleared m) ≡ true
+cleared_fits m f = past_fits m frames_at (zero_words 2048) (omega arith) (zeros_room frames_at 2048 (omega arith)) f

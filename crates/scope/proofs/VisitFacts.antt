@@ -17,7 +17,7 @@ use Rattle.scope.specs.declared.uses.Visit.{Visit}
 use Rattle.scope.specs.declared.uses.Visit.TheVariants.{On, Done, Stopped}
 use Rattle.scope.specs.Scopes.{scope_told}
 use Rattle.scope.specs.Frames.{stacked}
-use Rattle.scope.specs.Walks.{walk_told, sight, sight_of, Framed, led_to, VisitFits, Goes_on, Kept, visited, VisitFew, Visits}
+use Rattle.scope.specs.Walks.{walk_told, sight, sight_of, Framed, led_to, VisitFits, GoesOn, Kept, visited, VisitFew, Visits}
 use Rattle.scope.proofs.FrameFacts.{stacked-behind}
 use Rattle.scope.proofs.WalkFacts.{after_sight, uses-turn}
 
@@ -79,7 +79,7 @@ module _ (bs : List ℕ) (x y : Name) (m : List ℕ) (w : code.Walk) where
     came-few Stopped f = tt
 
     pub visit_on : w.frames ≤ 8192 → (uses : ℕ) → Some (listed l uses) ≡ use_listed (listed m w.uses) (w.at + 1) c → (out : List ℕ) (r : Visit) →
-        Goes_on l out end (λ go. after_head go w.at (kind_arity k) s (stacked l w.frames) (listed l uses)) r → Visits bs x y m w out r
+        GoesOn l out end (λ go. after_head go w.at (kind_arity k) s (stacked l w.frames) (listed l uses)) r → Visits bs x y m w out r
     visit_on few uses f out r g =
         record {
           turn = λ n.

@@ -1,5 +1,5 @@
 -- Writing the program with a new name, one name after the other. Assumes nothing: these are definitions.
-use Rattle.std.specs.Prelude.{◌≡◌, ℕ, ◌+◌, ◌-◌, ◌<◌, ◌≤◌, List, [], ◌++◌, length, Some, None, Option}
+use Rattle.std.specs.Prelude.{◌≡◌, ℕ, ◌+◌, ◌-◌, ◌<◌, List, [], ◌++◌, length, Some, None, Option}
 use Rattle.std.specs.List.{between}
 use Rattle.expr.specs.declared.token.Span.{Span}
 use Rattle.expr.specs.Look.{smaller}
@@ -42,8 +42,3 @@ SplicedAll m s y ks p (Some q) n = SplicedTo m s y ks p q [] n
 abbrev pub Replaced : List ℕ → List ℕ → Option ℕ → List ℕ → Type 0
 Replaced m new None n = Beside m n × (65536 < length new)
 Replaced m new (Some k) n = (k ≡ length new) × (n ≡ put_words m build_at (slot_filled new))
-
--- what was written is no longer than a program can be
-abbrev pub Short : Option ℕ → Type 0
-Short None = Unit {0}
-Short (Some k) = k ≤ 65536

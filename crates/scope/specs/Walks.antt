@@ -73,7 +73,7 @@ VisitFits i (Done n) = n ≤ 8192
 VisitFits i Stopped = Unit {0}
 
 -- the walk goes on at i as `next` has it
-pub record Goes_on (m n : List ℕ) (i : ℕ) (next : (Walk → Option (List ℕ)) → Option (List ℕ)) (r : Visit) : Type 0 where
+pub record GoesOn (m n : List ℕ) (i : ℕ) (next : (Walk → Option (List ℕ)) → Option (List ℕ)) (r : Visit) : Type 0 where
   pub to : (go : Walk → Option (List ℕ)) → next go ≡ led_to go n r
   pub fits : VisitFits i r
   pub kept : Framed m n

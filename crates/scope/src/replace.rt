@@ -1,11 +1,11 @@
 // The current program with the new name wherever it changes, written into the build area.
-ghost use Rattle.std.specs.Prelude.{◌≡◌, ◌<◌, ◌≤◌, true, length};
+ghost use Rattle.std.specs.Prelude.{◌≡◌, ◌<◌, ◌≤◌, true, length, IfSome};
 ghost use Rattle.expr.specs.Token.{spelled_in};
 ghost use Rattle.language.specs.Bytes.{all_bytes};
 ghost use Rattle.language.specs.Splice.{names_replaced};
 ghost use Rattle.memory.specs.Build.{build_length};
 ghost use Rattle.memory.specs.Layout.{memory_fits, held, listed};
-ghost use Rattle.scope.specs.Splicing.{clipped, Spliced, SplicedAll, Replaced, Short};
+ghost use Rattle.scope.specs.Splicing.{clipped, Spliced, SplicedAll, Replaced};
 
 use crate::renaming::Renaming;
 use expr::source::Source;
@@ -89,7 +89,7 @@ pub fn write_renamed(memory: &mut [u64], renaming: Renaming<'_>, count: usize) -
     requires bytes { all_bytes renaming.to.now ≡ true }
     requires count { count ≤ 8192 }
     ensures value { Replaced memory.old (names_replaced (held 0 memory.old) (spelled_in (held 0 memory.old) renaming.entry.from) renaming.entry.to.now (listed memory.old count)) result memory.new }
-    ensures short { Short result }
+    ensures short { IfSome result (λ len. len ≤ 65536) }
 {
     let first = Splice {
         build: begin(memory),

@@ -6,7 +6,7 @@ ghost use Rattle.language.specs.Uses.{use_listed, part_taken, after_leaf, after_
 ghost use Rattle.memory.specs.Layout.{memory_words, memory_fits, held, listed, list_at, reserve_at};
 ghost use Rattle.scope.specs.Frames.{frame_told, stacked};
 ghost use Rattle.scope.specs.Scopes.{scope_told};
-ghost use Rattle.scope.specs.Walks.{walk_told, sight_of, seen_told, SeenWithin, Framed, Goes_on, frame_opened, Kept, count_told, Few, Visits};
+ghost use Rattle.scope.specs.Walks.{walk_told, sight_of, seen_told, SeenWithin, Framed, GoesOn, frame_opened, Kept, count_told, Few, Visits};
 
 use crate::frames::{Frame, MAX_FRAMES, frame_at, put_frame};
 use crate::renaming::{Renaming, Scope, Use, node_use, scope_of};
@@ -118,7 +118,7 @@ fn take_part(memory: &mut [u64], index: usize, frame: Frame) -> usize
 // The next part of the newest frame comes next; where none is open, the walk is over.
 fn next_part(memory: &mut [u64], at: usize, frames: usize, uses: usize) -> Visit
     requires { (length memory.old ≡ memory_words) × ((frames ≤ 8192) × (uses ≤ 8192)) }
-    ensures { Goes_on memory.old memory.new at (λ go. after_leaf go (stacked memory.old frames) (listed memory.old uses)) result }
+    ensures { GoesOn memory.old memory.new at (λ go. after_leaf go (stacked memory.old frames) (listed memory.old uses)) result }
 {
     if frames == 0 {
         return Visit::Done(uses);
@@ -137,7 +137,7 @@ fn next_part(memory: &mut [u64], at: usize, frames: usize, uses: usize) -> Visit
 // After a node's head comes its first part, if it has one; the others wait in a frame.
 fn advance(memory: &mut [u64], walk: Walk, node: Node, scope: Scope) -> Visit
     requires { (length memory.old ≡ memory_words) × ((walk.frames ≤ 8192) × (walk.uses ≤ 8192)) }
-    ensures { Goes_on memory.old memory.new node.end (λ go. after_head go walk.at (kind_arity node.kind) (scope_told scope) (stacked memory.old walk.frames) (listed memory.old walk.uses)) result }
+    ensures { GoesOn memory.old memory.new node.end (λ go. after_head go walk.at (kind_arity node.kind) (scope_told scope) (stacked memory.old walk.frames) (listed memory.old walk.uses)) result }
 {
     let parts = arity(node.kind);
     if parts == 0 {
@@ -162,7 +162,7 @@ fn advance(memory: &mut [u64], walk: Walk, node: Node, scope: Scope) -> Visit
 // The parts after the first wait in a frame.
 fn open_frame(memory: &mut [u64], first: Walk, at: usize, parts: usize) -> Visit
     requires { (length memory.old ≡ memory_words) × ((first.frames ≤ 8192) × (first.uses ≤ 8192)) }
-    ensures { Goes_on memory.old memory.new first.at (λ go. frame_opened go (walk_told memory.old first) at parts) result }
+    ensures { GoesOn memory.old memory.new first.at (λ go. frame_opened go (walk_told memory.old first) at parts) result }
 {
     if first.frames >= MAX_FRAMES {
         return Visit::Stopped;
