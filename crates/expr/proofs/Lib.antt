@@ -1,3 +1,4 @@
-pub mod LookFacts
 pub mod SameFacts
 pub mod TokenFacts
+pub mod SkipFacts
+pub mod LookFacts

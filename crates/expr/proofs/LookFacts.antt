@@ -1,11 +1,11 @@
 -- Looking a name up, one name after the other. Assumes nothing.
-use Rattle.std.proofs.Common.{◌≡◌, ℕ, suc, ◌+◌, ◌-◌, ◌*◌, ◌/◌, ◌%◌, ◌<◌, ◌≤◌, Bool, true, false, List, [], ◌∷◌, length, take, drop, sym, ap, ◌∙◌, subst, ap₂, mul-le-mul_right, add-mul, one-mul, arith, eq-eqb, le-leb}
+use Rattle.std.proofs.Common.{◌≡◌, ℕ, suc, ◌+◌, ◌-◌, ◌*◌, ◌/◌, ◌%◌, ◌<◌, ◌≤◌, Bool, true, false, List, [], ◌∷◌, Ok, Option, Result, length, take, drop, sym, ap, ◌∙◌, subst, ap₂, mul-le-mul_right, add-mul, one-mul, arith, eq-eqb, le-leb}
 use Rattle.std.proofs.lemmas.Nat.{div-add-mod'}
 use Rattle.std.proofs.lemmas.List.{drop-drop}
 use Rattle.std.specs.List.{between}
 use Rattle.language.specs.Basics.{pick, same}
 use Rattle.language.specs.Bare.{how_near}
-use Rattle.expr.specs.declared.look.Reply.{Reply}
+use Rattle.expr.specs.declared.look.LookError.{LookError}
 use Rattle.expr.specs.Look.{cut, refusal, reply_of, LookSays}
 
 -- a name that a row is cut into lies in the row
@@ -38,7 +38,7 @@ module _ (bs x : List ℕ) (w k n : ℕ) (some : k < n) where
   near_more e = turn false e
 
 -- a name that has bytes, among names that are whole
-pub says_reply : (bs x : List ℕ) (r : Reply) → 0 < length x → length bs % length x ≡ 0 → r ≡ reply_of (how_near (cut (length bs / (length x)) (length x) bs) x 0) →
+pub says_reply : (bs x : List ℕ) (r : Result (Option ℕ) LookError) → 0 < length x → length bs % length x ≡ 0 → r ≡ Ok (reply_of (how_near (cut (length bs / (length x)) (length x) bs) x 0)) →
     LookSays bs x (refusal bs x) r
 says_reply bs x r some whole e =
     let is : refusal bs x ≡ 0 = ap₂ (λ t u. pick t (pick u 0 2) 1) (le-leb 1 (length x) (omega arith)) (eq-eqb _ _ whole) in

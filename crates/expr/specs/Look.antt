@@ -1,9 +1,9 @@
 -- Looking a name up among names of its own length. Assumes nothing: these are definitions.
-use Rattle.std.specs.Prelude.{◌≡◌, ℕ, zero, suc, ◌/◌, ◌%◌, List, [], ◌∷◌, length, take, drop, ◌==◌, nat_le, nat_lt}
+use Rattle.std.specs.Prelude.{◌≡◌, ℕ, zero, suc, ◌/◌, ◌%◌, List, [], ◌∷◌, length, take, drop, Some, None, Ok, Option, Result, IsErrAnd, ◌==◌, nat_le, nat_lt}
 use Rattle.language.specs.Basics.{pick}
 use Rattle.language.specs.Bare.{how_near}
-use Rattle.expr.specs.declared.look.Reply.{Reply}
-use Rattle.expr.specs.declared.look.Reply.TheVariants.{At, None, Refused}
+use Rattle.expr.specs.declared.look.LookError.{LookError}
+use Rattle.expr.specs.declared.look.LookError.TheVariants.{EmptyName, BrokenNames}
 
 -- so many names of so many bytes each, one after the other
 unfoldable pub cut : ℕ → ℕ → List ℕ → List (List ℕ)
@@ -14,13 +14,18 @@ cut (suc n) w bs = take w bs ∷ cut n w (drop w bs)
 abbrev pub refusal : List ℕ → List ℕ → ℕ
 refusal names name = pick (nat_le 1 (length name)) (pick (length names % (length name) == 0) 0 2) 1
 
-abbrev pub reply_of : List ℕ → Reply
-reply_of [] = None
-reply_of (k ∷ ks) = At k
+-- the number of each
+abbrev pub error_number : LookError → ℕ
+error_number EmptyName = 1
+error_number BrokenNames = 2
 
-abbrev pub LookSays : List ℕ → List ℕ → ℕ → Reply → Type 0
-LookSays names name zero r = r ≡ reply_of (how_near (cut (length names / (length name)) (length name) names) name 0)
-LookSays names name (suc k) r = r ≡ Refused (suc k)
+abbrev pub reply_of : List ℕ → Option ℕ
+reply_of [] = None
+reply_of (k ∷ ks) = Some k
+
+abbrev pub LookSays : List ℕ → List ℕ → ℕ → Result (Option ℕ) LookError → Type 0
+LookSays names name zero r = r ≡ Ok (reply_of (how_near (cut (length names / (length name)) (length name) names) name 0))
+LookSays names name (suc k) r = IsErrAnd r (λ e. error_number e ≡ suc k)
 
 abbrev pub smaller : ℕ → ℕ → ℕ
 smaller a b = pick (nat_lt a b) a b

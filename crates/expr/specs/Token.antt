@@ -1,9 +1,10 @@
 -- What a token that was read stands for. Assumes nothing: these are definitions.
-use Rattle.std.specs.Prelude.{◌≡◌, ℕ, ◌+◌, ◌<◌, ◌≤◌, List, Some, None, Option}
+use Rattle.std.specs.Prelude.{◌≡◌, ℕ, ◌+◌, ◌<◌, ◌≤◌, List, length, Some, None, Option, Result, MatchResult}
 use Rattle.std.specs.List.{between}
 use Rattle.expr.specs.declared.token.Span.{Span}
 use Rattle.expr.specs.declared.token.Operator.{Operator}
 use Rattle.expr.specs.declared.token.Operator.TheVariants.{Sum, Difference, Product, Quotient, Equal, Below}
+use Rattle.expr.specs.declared.token.NoOperator.{NoOperator}
 use Rattle.expr.specs.declared.token.Kind.{Kind}
 use Rattle.expr.specs.declared.token.Kind.TheVariants.{Number, Name, Binary, Call, Let, If, Tell}
 use Rattle.expr.specs.declared.token.Token as code
@@ -33,6 +34,14 @@ Skipped n low (Some j) high = (low ≤ j) × (0 < n → j ≤ high) × (high < 1
 abbrev pub spelled_in : List ℕ → Span → List ℕ
 spelled_in bs s = between s.from s.to bs
 
+abbrev pub span_end : Option Span → Option ℕ
+span_end None = None
+span_end (Some s) = Some s.to
+
+-- in a row of so many bytes, the same bytes lie in both spans
+abbrev pub SameIn : ℕ → Span → Span → Type 0
+SameIn n s t = (bs : List ℕ) → length bs ≡ n → spelled_in bs t ≡ spelled_in bs s
+
 -- the number of each operator
 abbrev pub operator_told : Operator → ℕ
 operator_told Sum = 0
@@ -42,9 +51,9 @@ operator_told Quotient = 3
 operator_told Equal = 4
 operator_told Below = 5
 
-abbrev pub operator_read : Option Operator → Option ℕ
-operator_read None = None
-operator_read (Some o) = Some (operator_told o)
+-- the operator of that number, or the number that no operator has
+abbrev pub ReadsOperator : ℕ → Result Operator NoOperator → Type 0
+ReadsOperator k r = MatchResult r (λ o. operator_told o ≡ k) (λ e. (e.0 ≡ k) × (6 ≤ k))
 
 -- the head of each kind, its names from the row
 abbrev pub kind_told : List ℕ → Kind → Head

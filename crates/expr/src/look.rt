@@ -1,47 +1,51 @@
 // Looking a name up among names of its own length, and the smaller of two numbers.
 ghost use Rattle.std.specs.Prelude.{◌≡◌};
-ghost use Rattle.expr.specs.Look.{refusal, LookSays, smaller};
+ghost use Rattle.expr.specs.Look.{error_number, refusal, LookSays, smaller};
 
 use crate::bytes::same_bytes;
 
-#[derive(Clone, Copy)]
-pub enum Reply {
-    // How many names stand before it.
-    At(u64),
-    None,
-    // The number of the refusal.
-    Refused(u64),
+// Why no name is looked for.
+#[derive(Clone, Copy, Debug, PartialEq, Eq)]
+pub enum LookError {
+    // The name has no bytes.
+    EmptyName,
+    // The names' bytes are no whole number of names.
+    BrokenNames,
 }
 
-// A name has no bytes.
-pub const EMPTY_NAME: u64 = 1;
+impl From<LookError> for u64 {
+    ghost from_gives = { λ e n. n ≡ error_number e };
 
-// The names' bytes are no whole number of names.
-pub const BROKEN_NAMES: u64 = 2;
+    fn from(why: LookError) -> u64 {
+        match why {
+            LookError::EmptyName => 1,
+            LookError::BrokenNames => 2,
+        }
+    }
+}
 
-// Where a name stands first among names of its length, which follow one another with nothing between them.
-pub fn look(names: &[u8], name: &[u8]) -> Reply
+// How many names stand before it, where a name stands first among names of its length, which follow one another with nothing between them.
+pub fn look(names: &[u8], name: &[u8]) -> Result<Option<u64>, LookError>
     ensures { LookSays names.now name.now (refusal names.now name.now) result }
 {
     let width = name.len();
     if width == 0 {
-        return Reply::Refused(EMPTY_NAME);
+        return Err(LookError::EmptyName);
     }
     if names.len() % width != 0 {
-        return Reply::Refused(BROKEN_NAMES);
+        return Err(LookError::BrokenNames);
     }
-    let count = names.len() / width;
-    for before in 0..count {
+    for before in 0..names.len() / width {
         let from = before * width;
         if same_bytes(&names[from..from + width], name) {
-            return Reply::At(before as u64);
+            return Ok(Some(before as u64));
         }
     }
-    Reply::None
+    Ok(None)
 }
 
 pub fn smaller_of(a: u64, b: u64) -> u64
     ensures { result ≡ smaller a b }
 {
-    if a < b { a } else { b }
+    a.min(b)
 }

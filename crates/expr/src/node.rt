@@ -31,9 +31,7 @@ pub fn read_node<S: Source>(src: &S, at: usize, holder: Option<Holder>) -> Optio
     ensures named { IfSome result (λ n. HasName n.kind) }
     ensures held { HeldBy holder result }
 {
-    let Some(token) = read_token(src, at) else {
-        return None;
-    };
+    let token = read_token(src, at)?;
     Some(Node {
         kind: token.kind,
         end: token.end,

@@ -24,15 +24,14 @@ fn byte_of(word: u64, number: usize) -> u8
 fn word_at(words: &[u64], i: usize) -> u64
     ensures { result ≡ slice_index words.now i }
 {
-    if i < words.len() { words[i] } else { 0 }
+    words.get(i).copied().unwrap_or(0)
 }
 
 impl Source for Packed<'_> {
     ghost bytes = { λ s. take s.len (flat eight s.words.now) };
 
     fn len(&self) -> usize {
-        let most = self.words.len() * 8;
-        if self.len < most { self.len } else { most }
+        self.len.min(self.words.len() * 8)
     }
 
     fn at(&self, i: usize) -> u8 {

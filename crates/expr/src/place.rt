@@ -25,11 +25,7 @@ pub fn follow<S: Source>(src: &S, place: &[u8], at: usize) -> Option<usize>
     let [part, rest @ ..] = place else {
         return Some(at);
     };
-    let Some(token) = read_token(src, at) else {
-        return None;
-    };
-    let Some(next) = part_of(src, token, usize::from(*part)) else {
-        return None;
-    };
+    let token = read_token(src, at)?;
+    let next = part_of(src, token, usize::from(*part))?;
     follow(src, rest, next)
 }

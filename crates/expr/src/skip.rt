@@ -16,11 +16,9 @@ pub fn arity(kind: Kind) -> usize
     ensures { result ≡ kind_arity kind }
 {
     match kind {
-        Kind::Number(_) => 0,
-        Kind::Name(_) => 0,
-        Kind::Binary(_) => 2,
+        Kind::Number(_) | Kind::Name(_) => 0,
+        Kind::Binary(_) | Kind::Let(_) => 2,
         Kind::Call(_, values) => usize::from(values),
-        Kind::Let(_) => 2,
         Kind::If => 3,
         Kind::Tell => 1,
     }
@@ -34,13 +32,8 @@ pub fn skip_many<S: Source>(src: &S, count: usize, at: usize) -> Option<usize>
     let len = src.len();
     let mut need = count;
     let mut end = at;
-    for turn in 0..len {
-        if need == 0 {
-            return Some(end);
-        }
-        let Some(token) = read_token(src, end) else {
-            return None;
-        };
+    while need > 0 {
+        let token = read_token(src, end)?;
         let parts = arity(token.kind);
         let left = len - token.end;
         need -= 1;
@@ -50,7 +43,7 @@ pub fn skip_many<S: Source>(src: &S, count: usize, at: usize) -> Option<usize>
         need += parts;
         end = token.end;
     }
-    if need == 0 { Some(end) } else { None }
+    Some(end)
 }
 
 // Where the expression ends that begins there.
@@ -67,11 +60,8 @@ pub fn skip_names<S: Source>(src: &S, count: u64, at: usize) -> Option<usize>
     ensures within { Onward at result (length (S.bytes src.now)) }
 {
     let mut end = at;
-    for done in 0..count {
-        let Some(next) = skip_name(src, end) else {
-            return None;
-        };
-        end = next;
+    for _ in 0..count {
+        end = skip_name(src, end)?;
     }
     Some(end)
 }
@@ -81,9 +71,7 @@ pub fn skip_params<S: Source>(src: &S, at: usize) -> Option<usize>
     ensures value { result ≡ params_end (S.bytes src.now) at }
     ensures within { Within at result (length (S.bytes src.now)) }
 {
-    let Some(count) = number(src, at) else {
-        return None;
-    };
+    let count = number(src, at)?;
     if count > u64::from(MAX_VALUES) {
         return None;
     }
@@ -95,12 +83,8 @@ pub fn skip_function<S: Source>(src: &S, at: usize) -> Option<usize>
     ensures value { result ≡ fun_end (S.bytes src.now) at }
     ensures within { Within at result (length (S.bytes src.now)) }
 {
-    let Some(params) = skip_name(src, at) else {
-        return None;
-    };
-    let Some(body) = skip_params(src, params) else {
-        return None;
-    };
+    let params = skip_name(src, at)?;
+    let body = skip_params(src, params)?;
     skip(src, body)
 }
 
@@ -109,11 +93,8 @@ fn skip_functions<S: Source>(src: &S, count: u64, at: usize) -> Option<usize>
     ensures { result ≡ times count (fun_end (S.bytes src.now)) at }
 {
     let mut end = at;
-    for done in 0..count {
-        let Some(next) = skip_function(src, end) else {
-            return None;
-        };
-        end = next;
+    for _ in 0..count {
+        end = skip_function(src, end)?;
     }
     Some(end)
 }

@@ -27,6 +27,6 @@ impl Source for Text<'_> {
     }
 
     fn at(&self, i: usize) -> u8 {
-        if i < self.len() { self.bytes[i] } else { 0 }
+        self.bytes.get(i).copied().unwrap_or(0)
     }
 }

@@ -1,11 +1,11 @@
 // Numbers, names and heads: what stands at a place in a row of bytes, and where it ends.
-ghost use Rattle.std.specs.Prelude.{◌≡◌, ◌+◌, length, Some, None, nat_lt, IfSome};
-ghost use Rattle.expr.specs.Token.{told, operator_read, token_end, HasName, Lies, Room, Within};
-ghost use Rattle.language.specs.Basics.{pick};
+ghost use Rattle.std.specs.Prelude.{◌≡◌, ◌+◌, length, ◌-◌, ◌<◌, ◌≤◌, IfSome};
+ghost use Rattle.expr.specs.Token.{told, ReadsOperator, SameIn, span_end, token_end, HasName, Lies, Room, Within};
 ghost use Rattle.language.specs.Heads.{h_var, h_bind};
 ghost use Rattle.language.specs.Reading.{number_at, name_end, num_at, bin_at, call_at, named_at, head_at};
 
 use crate::source::Source;
+use std::array;
 
 // Numbers of the language are below this.
 pub const NUMBER_LIMIT: u64 = 4611686018427387904;
@@ -20,6 +20,27 @@ pub struct Span {
     pub to: usize,
 }
 
+impl Span {
+    pub fn len(self) -> usize
+        ensures { result ≡ self.to - self.from }
+    {
+        self.to.saturating_sub(self.from)
+    }
+
+    // As far as it lies within a row of so many bytes.
+    pub fn within(self, len: usize) -> Span
+        ensures ordered { result.from ≤ result.to }
+        ensures inside { result.to ≤ len }
+        ensures same { SameIn len self result }
+    {
+        let to = self.to.min(len);
+        Span {
+            from: self.from.min(to),
+            to,
+        }
+    }
+}
+
 #[derive(Clone, Copy)]
 pub enum Operator {
     Sum,
@@ -29,6 +50,10 @@ pub enum Operator {
     Equal,
     Below,
 }
+
+// A byte that stands for no operator.
+#[derive(Clone, Copy, Debug, PartialEq, Eq)]
+pub struct NoOperator(pub u8);
 
 // An expression's kind, with what in it is no expression.
 #[derive(Clone, Copy)]
@@ -59,17 +84,7 @@ pub fn number<S: Source>(src: &S, at: usize) -> Option<u64>
     if len < 8 || at > len - 8 {
         return None;
     }
-    let bytes = [
-        src.at(at),
-        src.at(at + 1),
-        src.at(at + 2),
-        src.at(at + 3),
-        src.at(at + 4),
-        src.at(at + 5),
-        src.at(at + 6),
-        src.at(at + 7),
-    ];
-    Some(u64::from_be_bytes(bytes))
+    Some(u64::from_be_bytes(array::from_fn(|k| src.at(at + k))))
 }
 
 // Where the name ends whose length stands there; its bytes begin eight further on.
@@ -77,9 +92,7 @@ pub fn skip_name<S: Source>(src: &S, at: usize) -> Option<usize>
     ensures value { result ≡ name_end (S.bytes src.now) at }
     ensures within { Within (at + 9) result (length (S.bytes src.now)) }
 {
-    let Some(count) = number(src, at) else {
-        return None;
-    };
+    let count = number(src, at)?;
     if count < 1 || count > 32 {
         return None;
     }
@@ -91,15 +104,23 @@ pub fn skip_name<S: Source>(src: &S, at: usize) -> Option<usize>
     Some(from + count)
 }
 
+// Where the bytes of the name lie whose length stands there.
+pub fn read_name<S: Source>(src: &S, at: usize) -> Option<Span>
+    ensures value { span_end result ≡ name_end (S.bytes src.now) at }
+    ensures lies { IfSome result (λ s. (s.from ≡ at + 8) × (s.from < s.to)) }
+    ensures within { Within (at + 9) (span_end result) (length (S.bytes src.now)) }
+{
+    let to = skip_name(src, at)?;
+    Some(Span { from: at + 8, to })
+}
+
 fn number_token<S: Source>(src: &S, at: usize) -> Option<Token>
     ensures value { told (S.bytes src.now) result ≡ num_at (S.bytes src.now) at }
     ensures within { Within at (token_end result) (length (S.bytes src.now)) }
     ensures lies { Lies at result }
     ensures named { IfSome result (λ t. HasName t.kind) }
 {
-    let Some(n) = number(src, at) else {
-        return None;
-    };
+    let n = number(src, at)?;
     if n >= NUMBER_LIMIT {
         return None;
     }
@@ -109,17 +130,21 @@ fn number_token<S: Source>(src: &S, at: usize) -> Option<Token>
     })
 }
 
-fn read_operator(code: u8) -> Option<Operator>
-    ensures { operator_read result ≡ pick (nat_lt code 6) (Some code) None }
-{
-    match code {
-        0 => Some(Operator::Sum),
-        1 => Some(Operator::Difference),
-        2 => Some(Operator::Product),
-        3 => Some(Operator::Quotient),
-        4 => Some(Operator::Equal),
-        5 => Some(Operator::Below),
-        _ => None,
+impl TryFrom<u8> for Operator {
+    type Error = NoOperator;
+
+    ghost try_from_gives = { ReadsOperator };
+
+    fn try_from(code: u8) -> Result<Operator, NoOperator> {
+        match code {
+            0 => Ok(Operator::Sum),
+            1 => Ok(Operator::Difference),
+            2 => Ok(Operator::Product),
+            3 => Ok(Operator::Quotient),
+            4 => Ok(Operator::Equal),
+            5 => Ok(Operator::Below),
+            _ => Err(NoOperator(code)),
+        }
     }
 }
 
@@ -132,11 +157,9 @@ fn binary_token<S: Source>(src: &S, at: usize) -> Option<Token>
     if at >= src.len() {
         return None;
     }
-    let Some(o) = read_operator(src.at(at)) else {
-        return None;
-    };
+    let operator = Operator::try_from(src.at(at)).ok()?;
     Some(Token {
-        kind: Kind::Binary(o),
+        kind: Kind::Binary(operator),
         end: at + 1,
     })
 }
@@ -147,19 +170,17 @@ fn call_token<S: Source>(src: &S, at: usize) -> Option<Token>
     ensures lies { Lies at result }
     ensures named { IfSome result (λ t. HasName t.kind) }
 {
-    let Some(to) = skip_name(src, at) else {
-        return None;
-    };
-    if to >= src.len() {
+    let name = read_name(src, at)?;
+    if name.to >= src.len() {
         return None;
     }
-    let values = src.at(to);
+    let values = src.at(name.to);
     if values > MAX_VALUES {
         return None;
     }
     Some(Token {
-        kind: Kind::Call(Span { from: at + 8, to }, values),
-        end: to + 1,
+        kind: Kind::Call(name, values),
+        end: name.to + 1,
     })
 }
 
@@ -169,12 +190,10 @@ fn name_token<S: Source>(src: &S, at: usize) -> Option<Token>
     ensures lies { Lies at result }
     ensures named { IfSome result (λ t. HasName t.kind) }
 {
-    let Some(to) = skip_name(src, at) else {
-        return None;
-    };
+    let name = read_name(src, at)?;
     Some(Token {
-        kind: Kind::Name(Span { from: at + 8, to }),
-        end: to,
+        kind: Kind::Name(name),
+        end: name.to,
     })
 }
 
@@ -184,12 +203,10 @@ fn let_token<S: Source>(src: &S, at: usize) -> Option<Token>
     ensures lies { Lies at result }
     ensures named { IfSome result (λ t. HasName t.kind) }
 {
-    let Some(to) = skip_name(src, at) else {
-        return None;
-    };
+    let name = read_name(src, at)?;
     Some(Token {
-        kind: Kind::Let(Span { from: at + 8, to }),
-        end: to,
+        kind: Kind::Let(name),
+        end: name.to,
     })
 }
 

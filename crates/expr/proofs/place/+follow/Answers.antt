@@ -16,16 +16,16 @@ part-told bs k n m e p = ap₂ (λ a j. pick (ltb j a) (ends j (length bs) bs e)
 pub returns-in_default : goal.returns-in_default
 returns-in_default g t c = sym (place_here (g.S.Source.bytes c.args.src.now) c.args.place.now c.args.at (omega (arith, ltb-true, ltb-false)))
 
-pub returns-in_default-read_token : goal.returns-in_default-read_token
-returns-in_default-read_token g t c = sym (place_none (g.S.Source.bytes c.args.src.now) c.args.place.now c.args.at (omega (arith, ltb-true, ltb-false)) (sym c.in_default-read_token.ensures.value))
+pub returns-in_err-token : goal.returns-in_err-token
+returns-in_err-token g t c = c.from_residual.ensures ∙ sym (place_none (g.S.Source.bytes c.args.src.now) c.args.place.now c.args.at (omega (arith, ltb-true, ltb-false)) (sym c.in_err-token.ensures.value))
 
-pub returns-in_default-part_of : goal.returns-in_default-part_of
-returns-in_default-part_of g t c =
-    sym (place-cut (g.S.Source.bytes c.args.src.now) c.args.place.now c.args.at (omega (arith, ltb-true, ltb-false)) _ (sym c.in-Some.ensures.value)
-    (part-told (g.S.Source.bytes c.args.src.now) c.in-Some.token.kind _ _ _ c.from.ensures ∙ sym c.in_default-part_of.ensures))
+pub returns-in_err-next : goal.returns-in_err-next
+returns-in_err-next g t c =
+    c.from_residual-in_err-next.ensures ∙ sym (place-cut (g.S.Source.bytes c.args.src.now) c.args.place.now c.args.at (omega (arith, ltb-true, ltb-false)) _ (sym c.in_ok-token.ensures.value)
+    (part-told (g.S.Source.bytes c.args.src.now) c.in_ok-token.token.kind _ _ _ c.from.ensures ∙ sym c.in_err-next.ensures))
 
 pub returns : goal.returns
 returns g t c =
     c.follow.ensures
-    ∙ sym (place_more (g.S.Source.bytes c.args.src.now) c.args.place.now c.args.at (omega (arith, ltb-true, ltb-false)) _ _ (sym c.in-Some.ensures.value)
-    (part-told (g.S.Source.bytes c.args.src.now) c.in-Some.token.kind _ _ _ c.from.ensures ∙ sym c.in-Some-part_of.ensures))
+    ∙ sym (place_more (g.S.Source.bytes c.args.src.now) c.args.place.now c.args.at (omega (arith, ltb-true, ltb-false)) _ _ (sym c.in_ok-token.ensures.value)
+    (part-told (g.S.Source.bytes c.args.src.now) c.in_ok-token.token.kind _ _ _ c.from.ensures ∙ sym c.in_ok-next.ensures))
