@@ -1,5 +1,5 @@
 -- What a token that was read stands for. Assumes nothing: these are definitions.
-use Rattle.std.specs.Prelude.{◌≡◌, ℕ, ◌+◌, ◌<◌, ◌≤◌, List, length, Some, None, Option, Result, MatchResult}
+use Rattle.std.specs.Prelude.{◌≡◌, ℕ, ◌+◌, ◌<◌, ◌≤◌, List, length, Some, None, Option, Result, IfSome, MatchResult}
 use Rattle.std.specs.List.{between}
 use Rattle.expr.specs.declared.token.Span.{Span}
 use Rattle.expr.specs.declared.token.Operator.{Operator}
@@ -96,6 +96,12 @@ HasName Tell = Unit {0}
 abbrev pub token_end : Option code.Token → Option ℕ
 token_end None = None
 token_end (Some t) = Some t.end
+
+-- what was read behind i ends within a row of that length, and its name lies there and is not empty
+pub record LiesBehind (i : ℕ) (r : Option code.Token) (high : ℕ) : Type 0 where
+  pub within : Within i (token_end r) high
+  pub lies : Lies i r
+  pub named : IfSome r (λ t. HasName t.kind)
 
 -- how many parts follow a head of this kind
 abbrev pub kind_arity : Kind → ℕ

@@ -8,13 +8,13 @@ use crate::source::Source;
 use crate::token::{Kind, read_token};
 
 // The node that begins at `at` holds it, as its part of that number.
-#[derive(Clone, Copy)]
+#[derive(Clone, Copy, Debug, PartialEq, Eq)]
 pub struct Holder {
     pub at: usize,
     pub part: usize,
 }
 
-#[derive(Clone, Copy)]
+#[derive(Clone, Copy, Debug, PartialEq, Eq)]
 pub struct Node {
     pub kind: Kind,
     // Where the first part begins, or what comes after the expression.

@@ -1,6 +1,6 @@
 // Numbers, names and heads: what stands at a place in a row of bytes, and where it ends.
 ghost use Rattle.std.specs.Prelude.{◌≡◌, ◌+◌, length, ◌-◌, ◌<◌, ◌≤◌, IfSome};
-ghost use Rattle.expr.specs.Token.{told, ReadsOperator, SameIn, span_end, token_end, HasName, Lies, Room, Within};
+ghost use Rattle.expr.specs.Token.{told, LiesBehind, ReadsOperator, SameIn, span_end, token_end, HasName, Lies, Room, Within};
 ghost use Rattle.language.specs.Heads.{h_var, h_bind};
 ghost use Rattle.language.specs.Reading.{number_at, name_end, num_at, bin_at, call_at, named_at, head_at};
 
@@ -14,7 +14,7 @@ pub const NUMBER_LIMIT: u64 = 4611686018427387904;
 pub const MAX_VALUES: u8 = 16;
 
 // Where bytes lie in their row: from the first up to, and without, the last.
-#[derive(Clone, Copy)]
+#[derive(Clone, Copy, Debug, PartialEq, Eq)]
 pub struct Span {
     pub from: usize,
     pub to: usize,
@@ -41,7 +41,7 @@ impl Span {
     }
 }
 
-#[derive(Clone, Copy)]
+#[derive(Clone, Copy, Debug, PartialEq, Eq)]
 pub enum Operator {
     Sum,
     Difference,
@@ -56,7 +56,7 @@ pub enum Operator {
 pub struct NoOperator(pub u8);
 
 // An expression's kind, with what in it is no expression.
-#[derive(Clone, Copy)]
+#[derive(Clone, Copy, Debug, PartialEq, Eq)]
 pub enum Kind {
     Number(u64),
     Name(Span),
@@ -68,7 +68,7 @@ pub enum Kind {
     Tell,
 }
 
-#[derive(Clone, Copy)]
+#[derive(Clone, Copy, Debug, PartialEq, Eq)]
 pub struct Token {
     pub kind: Kind,
     // Where the first part begins, or what comes after the expression.
@@ -116,9 +116,7 @@ pub fn read_name<S: Source>(src: &S, at: usize) -> Option<Span>
 
 fn number_token<S: Source>(src: &S, at: usize) -> Option<Token>
     ensures value { told (S.bytes src.now) result ≡ num_at (S.bytes src.now) at }
-    ensures within { Within at (token_end result) (length (S.bytes src.now)) }
-    ensures lies { Lies at result }
-    ensures named { IfSome result (λ t. HasName t.kind) }
+    ensures lies { LiesBehind at result (length (S.bytes src.now)) }
 {
     let n = number(src, at)?;
     if n >= NUMBER_LIMIT {
@@ -150,9 +148,7 @@ impl TryFrom<u8> for Operator {
 
 fn binary_token<S: Source>(src: &S, at: usize) -> Option<Token>
     ensures value { told (S.bytes src.now) result ≡ bin_at (S.bytes src.now) at }
-    ensures within { Within at (token_end result) (length (S.bytes src.now)) }
-    ensures lies { Lies at result }
-    ensures named { IfSome result (λ t. HasName t.kind) }
+    ensures lies { LiesBehind at result (length (S.bytes src.now)) }
 {
     if at >= src.len() {
         return None;
@@ -166,9 +162,7 @@ fn binary_token<S: Source>(src: &S, at: usize) -> Option<Token>
 
 fn call_token<S: Source>(src: &S, at: usize) -> Option<Token>
     ensures value { told (S.bytes src.now) result ≡ call_at (S.bytes src.now) at }
-    ensures within { Within at (token_end result) (length (S.bytes src.now)) }
-    ensures lies { Lies at result }
-    ensures named { IfSome result (λ t. HasName t.kind) }
+    ensures lies { LiesBehind at result (length (S.bytes src.now)) }
 {
     let name = read_name(src, at)?;
     if name.to >= src.len() {
@@ -181,32 +175,6 @@ fn call_token<S: Source>(src: &S, at: usize) -> Option<Token>
     Some(Token {
         kind: Kind::Call(name, values),
         end: name.to + 1,
-    })
-}
-
-fn name_token<S: Source>(src: &S, at: usize) -> Option<Token>
-    ensures value { told (S.bytes src.now) result ≡ named_at h_var (S.bytes src.now) at }
-    ensures within { Within at (token_end result) (length (S.bytes src.now)) }
-    ensures lies { Lies at result }
-    ensures named { IfSome result (λ t. HasName t.kind) }
-{
-    let name = read_name(src, at)?;
-    Some(Token {
-        kind: Kind::Name(name),
-        end: name.to,
-    })
-}
-
-fn let_token<S: Source>(src: &S, at: usize) -> Option<Token>
-    ensures value { told (S.bytes src.now) result ≡ named_at h_bind (S.bytes src.now) at }
-    ensures within { Within at (token_end result) (length (S.bytes src.now)) }
-    ensures lies { Lies at result }
-    ensures named { IfSome result (λ t. HasName t.kind) }
-{
-    let name = read_name(src, at)?;
-    Some(Token {
-        kind: Kind::Let(name),
-        end: name.to,
     })
 }
 
@@ -223,10 +191,16 @@ pub fn read_token<S: Source>(src: &S, at: usize) -> Option<Token>
     let rest = at + 1;
     match src.at(at) {
         0 => number_token(src, rest),
-        1 => name_token(src, rest),
+        1 => read_name(src, rest).map(|name| Token {
+            kind: Kind::Name(name),
+            end: name.to,
+        }),
         2 => binary_token(src, rest),
         3 => call_token(src, rest),
-        4 => let_token(src, rest),
+        4 => read_name(src, rest).map(|name| Token {
+            kind: Kind::Let(name),
+            end: name.to,
+        }),
         5 => Some(Token {
             kind: Kind::If,
             end: rest,

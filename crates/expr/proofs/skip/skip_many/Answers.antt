@@ -1,6 +1,6 @@
 -- Each turn is one step of `ends`, and each way out what `ends` comes to.
 use Rattle.std.proofs.Common.{◌-◌, refl, sym, ◌∙◌, arith}
-use Rattle.language.proofs.ReadingFacts.{ends-done, ends_none, ends_out, ends_more}
+use Rattle.language.proofs.ReadingFacts.{ends-done, ends_out, ends_more}
 use Rattle.expr.proofs.SkipFacts.{ends_nowhere}
 use Rattle.expr.proofs.TokenFacts.{arity-told}
 use Rattle.expr.proofs.skip.skip_many.Goals as goal
