@@ -3,26 +3,18 @@
 
 ghost use Rattle.language.specs.Statements.{DeeperSame, AlikeSame, FreeMatter, ThereAgain};
 
-pub fn depth_is_no_matter() -> u8
+pub fn depth_is_no_matter()
     ensures { DeeperSame }
-{
-    0
-}
+{}
 
-pub fn places_hold() -> u8
+pub fn places_hold()
     ensures { ThereAgain }
-{
-    0
-}
+{}
 
-pub fn only_free_names_matter() -> u8
+pub fn only_free_names_matter()
     ensures { FreeMatter }
-{
-    0
-}
+{}
 
-pub fn names_do_not_matter() -> u8
+pub fn names_do_not_matter()
     ensures { AlikeSame }
-{
-    0
-}
+{}

@@ -8,74 +8,50 @@ ghost use Rattle.model.specs.Worked.{WorkedTable};
 ghost use Rattle.model.specs.Guards.{Guards};
 ghost use Rattle.model.specs.Renaming.{UsesListed, NamesSpliced};
 
-pub fn quiet_is_quiet() -> u8
+pub fn quiet_is_quiet()
     ensures { QuietQuiet }
-{
-    0
-}
+{}
 
-pub fn commands_are_spelled_once() -> u8
+pub fn commands_are_spelled_once()
     ensures { SpelledOnce }
-{
-    0
-}
+{}
 
-pub fn meaning_is_kept() -> u8
+pub fn meaning_is_kept()
     ensures { Means everything }
-{
-    0
-}
+{}
 
-pub fn core_keeps_meaning() -> u8
+pub fn core_keeps_meaning()
     ensures { Means core }
-{
-    0
-}
+{}
 
-pub fn refusals_change_nothing() -> u8
+pub fn refusals_change_nothing()
     ensures { RefusedSame }
-{
-    0
-}
+{}
 
-pub fn going_back_restores() -> u8
+pub fn going_back_restores()
     ensures { BackAgain }
-{
-    0
-}
+{}
 
-pub fn programs_stay_fine() -> u8
+pub fn programs_stay_fine()
     ensures { StaysFine }
-{
-    0
-}
+{}
 
-pub fn programs_stay_programs() -> u8
+pub fn programs_stay_programs()
     ensures { StaysProgram }
-{
-    0
-}
+{}
 
-pub fn worked_formula() -> u8
+pub fn worked_formula()
     ensures { WorkedTable }
-{
-    0
-}
+{}
 
-pub fn refusals_guard_meaning() -> u8
+pub fn refusals_guard_meaning()
     ensures { Guards }
-{
-    0
-}
+{}
 
-pub fn uses_are_listed() -> u8
+pub fn uses_are_listed()
     ensures { UsesListed }
-{
-    0
-}
+{}
 
-pub fn names_are_spliced() -> u8
+pub fn names_are_spliced()
     ensures { NamesSpliced }
-{
-    0
-}
+{}
