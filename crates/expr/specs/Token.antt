@@ -1,5 +1,5 @@
 -- What a token that was read stands for. Assumes nothing: these are definitions.
-use Rattle.std.specs.Prelude.{◌≡◌, ℕ, ◌+◌, ◌<◌, ◌≤◌, List, length, Some, None, Option, Result, IfSome, MatchResult}
+use Rattle.std.specs.Prelude.{◌≡◌, ℕ, ◌+◌, ◌<◌, ◌≤◌, List, length, Some, None, Option, Result, IfSome, MatchResult, nat_le}
 use Rattle.std.specs.List.{between}
 use Rattle.expr.specs.declared.token.Span.{Span}
 use Rattle.expr.specs.declared.token.Operator.{Operator}
@@ -9,7 +9,8 @@ use Rattle.expr.specs.declared.token.Kind.{Kind}
 use Rattle.expr.specs.declared.token.Kind.TheVariants.{Number, Name, Binary, Call, Let, If, Tell}
 use Rattle.expr.specs.declared.token.Token as code
 use Rattle.language.specs.Heads.{Head, h_num, h_var, h_bin, h_call, h_bind, h_choice, h_tell}
-use Rattle.language.specs.Reading.{Token, token}
+use Rattle.language.specs.Basics.{pick}
+use Rattle.language.specs.Reading.{Token, token, found, times, number_at, fun_end}
 
 -- where something was found, there is room for it, and the row is no longer than a row can be
 abbrev pub Room : ℕ → Option ℕ → ℕ → Type 0
@@ -112,3 +113,7 @@ kind_arity (Call s k) = k
 kind_arity (Let s) = 2
 kind_arity If = 3
 kind_arity Tell = 1
+
+-- where the functions of a program end, at most 1,024, whose count stands first
+abbrev pub program_end : List ℕ → Option ℕ
+program_end bs = found (number_at bs 0) (λ n. pick (nat_le n 1024) (times n (fun_end bs) 8) None)

@@ -1,6 +1,6 @@
 // Where expressions, functions and programs end, by counting what is still to come: no stack, one pass.
 ghost use Rattle.std.specs.Prelude.{◌≡◌, ◌+◌, length};
-ghost use Rattle.expr.specs.Token.{kind_arity, Onward, Skipped, Within};
+ghost use Rattle.expr.specs.Token.{kind_arity, program_end, Onward, Skipped, Within};
 ghost use Rattle.language.specs.Reading.{ends, expr_end, params_end, fun_end, is_program, name_end, times};
 
 use crate::source::Source;
@@ -99,22 +99,20 @@ fn skip_functions<S: Source>(src: &S, count: u64, at: usize) -> Option<usize>
     Some(end)
 }
 
+// Where the functions of a program end, whose count stands first.
+fn skip_program<S: Source>(src: &S) -> Option<usize>
+    ensures { result ≡ program_end (S.bytes src.now) }
+{
+    let count = number(src, 0)?;
+    if count > MAX_FUNCTIONS {
+        return None;
+    }
+    skip_functions(src, count, 8)
+}
+
 // The bytes are a program's spelling, whole.
 pub fn is_program<S: Source>(src: &S) -> bool
     ensures { result ≡ is_program (S.bytes src.now) }
 {
-    let len = src.len();
-    if len > MAX_BYTES {
-        return false;
-    }
-    let Some(count) = number(src, 0) else {
-        return false;
-    };
-    if count > MAX_FUNCTIONS {
-        return false;
-    }
-    let Some(end) = skip_functions(src, count, 8) else {
-        return false;
-    };
-    end == len
+    src.len() <= MAX_BYTES && skip_program(src) == Some(src.len())
 }

@@ -1,17 +1,8 @@
 -- Each way out is a refusal or what is found; each turn is one step of `how-near`.
 use Rattle.std.proofs.Common.{Ok, length, sym, ap, ◌∙◌, arith}
 use Rattle.expr.specs.Look.{reply_of}
-use Rattle.expr.proofs.LookFacts.{name_room, near-end, near_here, near_more, says_reply}
+use Rattle.expr.proofs.LookFacts.{near-end, near_here, near_more, says_reply}
 use Rattle.expr.proofs.look.look.Goals as goal
-
-pub overflow_mul-from : goal.overflow_mul-from
-overflow_mul-from c = omega (arith, name_room c.args.names.now (length c.args.name.now) c.loop-before.before (omega arith))
-
-pub overflow_add-from : goal.overflow_add-from
-overflow_add-from c = omega (arith, name_room c.args.names.now (length c.args.name.now) c.loop-before.before (omega arith))
-
-pub slice_bounds-same_bytes-end : goal.slice_bounds-same_bytes-end
-slice_bounds-same_bytes-end c = omega (arith, name_room c.args.names.now (length c.args.name.now) c.loop-before.before (omega arith))
 
 pub loop-before-preserved : goal.loop-before-preserved
 loop-before-preserved c = c.loop-before.invariant ∙ near_more _ _ _ _ _ c.loop-before-test.true (sym c.if-same_bytes.ensures)
