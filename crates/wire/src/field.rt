@@ -34,7 +34,7 @@ fn are_parts(numbers: &[u8]) -> bool
 }
 
 impl<'a> Fields<'a> {
-    // The bytes from the one place up to, and without, the other, and what comes after them.
+    // The bytes from the one place up to, and without, the other; what comes after them is left.
     fn cut(&mut self, from: usize, end: usize) -> &'a [u8]
         requires { (from ≤ end) × (end ≤ length self.old.rest.now) }
         ensures { field result.now self.new.rest.now ≡ field (between from end self.old.rest.now) (drop end self.old.rest.now) }

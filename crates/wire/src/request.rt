@@ -49,8 +49,8 @@ pub enum Request<'a> {
     Undo,
 }
 
-// A command of the kind that its first byte says, from its other bytes. The numbers stay numbers: they are the spelling, and this is
-// their one reader, so names for them would only stand a second time beside those of the commands.
+// A command of the kind that its first byte says, from its other bytes. The numbers are the spelling, and this is their only reader:
+// an enum of the kinds would only say the names of the commands twice.
 fn read_kind(kind: u8, text: &[u8]) -> Option<Request<'_>>
     ensures { request_told result ≡ command_in kind text.now }
 {
