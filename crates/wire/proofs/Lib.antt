@@ -1,1 +1,2 @@
 pub mod RequestFacts
+pub mod WalkFacts

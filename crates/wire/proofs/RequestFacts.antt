@@ -1,8 +1,6 @@
 -- A text asks for what its first byte and the others ask for, and that is what is spelled so. Assumes nothing.
-use Rattle.std.proofs.Common.{◌≡◌, ℕ, suc, ◌<◌, true, List, [], ◌∷◌, length, get_or, Some, None, Option, sym, refl, ap, ◌∙◌, w8, Fits, lt-ltb}
+use Rattle.std.proofs.Common.{◌≡◌, ℕ, suc, true, List, [], ◌∷◌, length, get_or, Some, None, Option, sym, refl, ap, ◌∙◌, w8, Fits, lt-ltb}
 use mir.Facts.{Fits-lt-pow}
-use Rattle.std.specs.List.{between}
-use Rattle.std.proofs.lemmas.Slice.{first_rest}
 use Rattle.std.proofs.lemmas.List.{nil_from_length}
 use Rattle.std.proofs.lemmas.Bool.{and_from}
 use Rattle.language.specs.Basics.{pick}
@@ -20,10 +18,9 @@ pub asked_none : (bs : List ℕ) → length bs ≡ 0 → None ≡ asked bs
 unfolding asked
 asked_none bs h = ap (λ t. pick (all_bytes t) (of_kind t) None) (sym (nil_from_length bs h))
 
-pub asked_kind : (bs : List ℕ) (r : Option Ask) → 0 < length bs → ((i : ℕ) → Fits w8 (get_or bs i 0)) → r ≡ command_in (get_or bs 0 0) (between 1 (length bs) bs) → r ≡ asked bs
+pub asked_kind : (bs : List ℕ) (k : ℕ) (rest : List ℕ) (r : Option Ask) → bs ≡ k ∷ rest → ((i : ℕ) → Fits w8 (get_or bs i 0)) → r ≡ command_in k rest → r ≡ asked bs
 unfolding asked
-asked_kind bs r h typed e =
-    e ∙ ap of_kind (sym (first_rest bs 0 h)) ∙ ap (λ t. pick t (of_kind bs) None) (sym (typed_bytes bs typed))
+asked_kind bs k rest r h typed e = e ∙ sym (ap of_kind h) ∙ ap (λ t. pick t (of_kind bs) None) (sym (typed_bytes bs typed))
 
 pub exact : (text : List ℕ) (r : Option Request) → request_told r ≡ asked text → Exact text r
 exact text None e = λ c said. let a = said-asked text c said in cc (e, a.1)

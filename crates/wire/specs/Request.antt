@@ -1,31 +1,32 @@
 -- What fields and requests that were read stand for. Assumes nothing: these are definitions.
 use Rattle.std.specs.Borrow.{Bor}
-use Rattle.std.specs.Prelude.{ℕ, List, Some, None, Option}
-use Rattle.wire.specs.declared.field.Field as code
-use Rattle.wire.specs.declared.field.Located as code-located
-use Rattle.wire.specs.declared.field.Target as code-target
+use Rattle.std.specs.Prelude.{ℕ, List, [], ◌∷◌, Some, None, Option}
+use Rattle.wire.specs.declared.field.Target as code
 use Rattle.wire.specs.declared.request.Request.{Request}
 use Rattle.wire.specs.declared.request.Request.TheVariants.{Load, Show, Names, RenameBind, RenameParam, RenameFunction, Extract, InlineBind, InlineCall, TurnIf, DropFunction, Undo}
 use Rattle.model.specs.Command.{Command, show, names, rename_bind, rename_param, rename_fun, extract, inline_bind, inline_call, turn_cond, drop_fun, undo}
 use Rattle.model.specs.Whole.{Said, Never}
 use Rattle.model.specs.Reading.{Ask, loading, asking, Asks, Field, field, Located, located, Target, target}
 
-abbrev pub field_of : code.Field → Field
-field_of f = field f.value.now f.rest.now
+-- each field that was read, with what is left after it
+abbrev pub field_told : Option (Bor (List ℕ)) → List ℕ → Option Field
+field_told None rest = None
+field_told (Some x) rest = Some (field x.now rest)
 
-abbrev pub field_told : Option code.Field → Option Field
-field_told None = None
-field_told (Some f) = Some (field_of f)
+abbrev pub index_told : Option ℕ → List ℕ → Option Field
+index_told None rest = None
+index_told (Some i) rest = Some (field (i ∷ []) rest)
 
+abbrev pub located_told : Option code.Target → List ℕ → Option Located
+located_told None rest = None
+located_told (Some t) rest = Some (located t.function.now t.place.now rest)
+
+-- the last fields
 abbrev pub bytes_told : Option (Bor (List ℕ)) → Option (List ℕ)
 bytes_told None = None
 bytes_told (Some x) = Some x.now
 
-abbrev pub located_told : Option code-located.Located → Option Located
-located_told None = None
-located_told (Some l) = Some (located l.target.function.now l.target.place.now l.rest.now)
-
-abbrev pub target_told : Option code-target.Target → Option Target
+abbrev pub target_told : Option code.Target → Option Target
 target_told None = None
 target_told (Some t) = Some (target t.function.now t.place.now)
 

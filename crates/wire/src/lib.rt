@@ -2,5 +2,7 @@
 #![tactic(auto)]
 
 pub mod field;
+pub mod functions;
+pub mod names;
 pub mod program;
 pub mod request;

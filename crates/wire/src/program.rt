@@ -1,103 +1,42 @@
 // Programs in rows of bytes: where a function stands, and whether names differ.
 ghost use Rattle.std.specs.Prelude.{◌≡◌};
-ghost use Rattle.language.specs.Contents.{name_there, names_from, own_names, owns_differ, find_from, find_function};
-ghost use Rattle.language.specs.Names.{has, distinct};
+ghost use Rattle.language.specs.Contents.{owns_differ, find_function};
+ghost use Rattle.language.specs.Names.{distinct};
+ghost use Rattle.wire.specs.Walk.{own_after};
 
-use expr::compare::{is_name, same_names};
-use expr::skip::skip_function;
+use crate::functions::Functions;
+use crate::names::Names;
+use expr::compare::is_name;
 use expr::source::Source;
-use expr::token::{number, skip_name};
-
-// Where the function of that name begins, among `count` from `at` on.
-fn find_from<S: Source>(src: &S, count: u64, at: usize, name: &[u8]) -> Option<usize>
-    ensures { result ≡ find_from count (S.bytes src.now) name.now at }
-{
-    let mut here = at;
-    for done in 0..count {
-        let Some(_params) = skip_name(src, here) else {
-            return None;
-        };
-        if is_name(src, here, name) {
-            return Some(here);
-        }
-        let Some(next) = skip_function(src, here) else {
-            return None;
-        };
-        here = next;
-    }
-    None
-}
+use expr::token::number;
 
 // Where the function of that name begins.
 pub fn find_function<S: Source>(src: &S, name: &[u8]) -> Option<usize>
     ensures { result ≡ find_function (S.bytes src.now) name.now }
 {
-    let Some(count) = number(src, 0) else {
-        return None;
-    };
-    find_from(src, count, 8, name)
+    Functions::new(src, number(src, 0)?, 8)
+        .find(|f| is_name(src, f.at, name))
+        .map(|f| f.at)
 }
 
-// The name at `at` is among `count` names from `from` on.
-fn is_among<S: Source>(src: &S, at: usize, from: usize, count: u64) -> bool
-    ensures { result ≡ has (names_from count (S.bytes src.now) from) (name_there (S.bytes src.now) at) }
+// No two own names are the same of the function whose name ends there.
+fn own_names_differ<S: Source>(src: &S, params: usize) -> bool
+    ensures { result ≡ distinct (own_after (S.bytes src.now) params) }
 {
-    let mut here = from;
-    for done in 0..count {
-        let Some(next) = skip_name(src, here) else {
-            return false;
-        };
-        if same_names(src, at, here) {
-            return true;
-        }
-        here = next;
-    }
-    false
-}
-
-// No two of `count` names from `from` on are the same.
-fn names_differ<S: Source>(src: &S, from: usize, count: u64) -> bool
-    ensures { result ≡ distinct (names_from count (S.bytes src.now) from) }
-{
-    let mut here = from;
-    for done in 0..count {
-        let Some(next) = skip_name(src, here) else {
-            return true;
-        };
-        if is_among(src, here, next, count - (done + 1)) {
-            return false;
-        }
-        here = next;
-    }
-    true
-}
-
-// No two own names of the function there are the same.
-fn own_names_differ<S: Source>(src: &S, at: usize) -> bool
-    ensures { result ≡ distinct (own_names (S.bytes src.now) at) }
-{
-    let Some(params) = skip_name(src, at) else {
-        return true;
-    };
     let Some(count) = number(src, params) else {
         return true;
     };
-    names_differ(src, params + 8, count)
+    let names = Names {
+        src,
+        count,
+        at: params + 8,
+    };
+    names.differ()
 }
 
 // In none of `count` functions are two own names the same.
 pub fn owns_differ<S: Source>(src: &S, count: u64) -> bool
     ensures { result ≡ owns_differ count (S.bytes src.now) 8 }
 {
-    let mut here = 8;
-    for done in 0..count {
-        if !own_names_differ(src, here) {
-            return false;
-        }
-        let Some(next) = skip_function(src, here) else {
-            return true;
-        };
-        here = next;
-    }
-    true
+    Functions::new(src, count, 8).all(|f| own_names_differ(src, f.params))
 }

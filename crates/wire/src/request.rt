@@ -1,14 +1,13 @@
 // The commands, with the parts of the text that they name.
 ghost use Rattle.std.specs.Prelude.{◌≡◌};
-ghost use Rattle.model.specs.Command.{show, names, rename_bind, rename_param, rename_fun, extract, inline_bind, inline_call, turn_cond, drop_fun, undo};
-ghost use Rattle.model.specs.Reading.{load_in, by_name, by_names, by_place, by_place_name, by_index_name, whole, command_in, asked};
+ghost use Rattle.model.specs.Reading.{command_in, asked};
 ghost use Rattle.wire.specs.Request.{request_told, Exact};
 
-use crate::field::{Target, read_index, read_last_name, read_last_target, read_name, read_target};
+use crate::field::{Fields, Target};
 use expr::skip::is_program;
 use expr::source::{Source, Text};
 
-#[derive(Clone, Copy)]
+#[derive(Clone, Copy, Debug, PartialEq, Eq)]
 pub enum Request<'a> {
     Load {
         program: &'a [u8],
@@ -50,159 +49,48 @@ pub enum Request<'a> {
     Undo,
 }
 
-fn read_load(text: &[u8]) -> Option<Request<'_>>
-    ensures { request_told result ≡ load_in text.now }
-{
-    if !is_program(&Text { bytes: text }) {
-        return None;
-    }
-    Some(Request::Load { program: text })
-}
-
-fn read_show(text: &[u8]) -> Option<Request<'_>>
-    ensures { request_told result ≡ by_name show text.now }
-{
-    let Some(function) = read_last_name(text) else {
-        return None;
-    };
-    Some(Request::Show { function })
-}
-
-fn read_names(text: &[u8]) -> Option<Request<'_>>
-    ensures { request_told result ≡ whole text.now names }
-{
-    if text.len() > 0 {
-        return None;
-    }
-    Some(Request::Names)
-}
-
-fn read_rename_bind(text: &[u8]) -> Option<Request<'_>>
-    ensures { request_told result ≡ by_place_name rename_bind text.now }
-{
-    let Some(located) = read_target(text) else {
-        return None;
-    };
-    let Some(to) = read_last_name(located.rest) else {
-        return None;
-    };
-    Some(Request::RenameBind {
-        at: located.target,
-        to,
-    })
-}
-
-fn read_rename_param(text: &[u8]) -> Option<Request<'_>>
-    ensures { request_told result ≡ by_index_name rename_param text.now }
-{
-    let Some(function) = read_name(text) else {
-        return None;
-    };
-    let Some(index) = read_index(function.rest) else {
-        return None;
-    };
-    let Some(to) = read_last_name(index.rest) else {
-        return None;
-    };
-    Some(Request::RenameParam {
-        function: function.value,
-        index: index.value[0],
-        to,
-    })
-}
-
-fn read_rename_function(text: &[u8]) -> Option<Request<'_>>
-    ensures { request_told result ≡ by_names rename_fun text.now }
-{
-    let Some(function) = read_name(text) else {
-        return None;
-    };
-    let Some(to) = read_last_name(function.rest) else {
-        return None;
-    };
-    Some(Request::RenameFunction {
-        function: function.value,
-        to,
-    })
-}
-
-fn read_extract(text: &[u8]) -> Option<Request<'_>>
-    ensures { request_told result ≡ by_place_name extract text.now }
-{
-    let Some(located) = read_target(text) else {
-        return None;
-    };
-    let Some(to) = read_last_name(located.rest) else {
-        return None;
-    };
-    Some(Request::Extract {
-        at: located.target,
-        to,
-    })
-}
-
-fn read_inline_bind(text: &[u8]) -> Option<Request<'_>>
-    ensures { request_told result ≡ by_place inline_bind text.now }
-{
-    let Some(at) = read_last_target(text) else {
-        return None;
-    };
-    Some(Request::InlineBind { at })
-}
-
-fn read_inline_call(text: &[u8]) -> Option<Request<'_>>
-    ensures { request_told result ≡ by_place inline_call text.now }
-{
-    let Some(at) = read_last_target(text) else {
-        return None;
-    };
-    Some(Request::InlineCall { at })
-}
-
-fn read_turn_if(text: &[u8]) -> Option<Request<'_>>
-    ensures { request_told result ≡ by_place turn_cond text.now }
-{
-    let Some(at) = read_last_target(text) else {
-        return None;
-    };
-    Some(Request::TurnIf { at })
-}
-
-fn read_drop_function(text: &[u8]) -> Option<Request<'_>>
-    ensures { request_told result ≡ by_name drop_fun text.now }
-{
-    let Some(function) = read_last_name(text) else {
-        return None;
-    };
-    Some(Request::DropFunction { function })
-}
-
-fn read_undo(text: &[u8]) -> Option<Request<'_>>
-    ensures { request_told result ≡ whole text.now undo }
-{
-    if text.len() > 0 {
-        return None;
-    }
-    Some(Request::Undo)
-}
-
-// A command of the kind that its first byte says, from its other bytes.
+// A command of the kind that its first byte says, from its other bytes. The numbers are the spelling, and this is their only reader:
+// an enum of the kinds would only say the names of the commands twice.
 fn read_kind(kind: u8, text: &[u8]) -> Option<Request<'_>>
     ensures { request_told result ≡ command_in kind text.now }
 {
+    let mut fields = Fields { rest: text };
     match kind {
-        1 => read_load(text),
-        2 => read_show(text),
-        3 => read_names(text),
-        4 => read_rename_bind(text),
-        5 => read_rename_param(text),
-        6 => read_rename_function(text),
-        7 => read_extract(text),
-        8 => read_inline_bind(text),
-        9 => read_inline_call(text),
-        10 => read_turn_if(text),
-        11 => read_drop_function(text),
-        12 => read_undo(text),
+        1 => is_program(&Text { bytes: text }).then_some(Request::Load { program: text }),
+        2 => Some(Request::Show {
+            function: fields.last_name()?,
+        }),
+        3 => text.is_empty().then_some(Request::Names),
+        4 => Some(Request::RenameBind {
+            at: fields.target()?,
+            to: fields.last_name()?,
+        }),
+        5 => Some(Request::RenameParam {
+            function: fields.name()?,
+            index: fields.index()?,
+            to: fields.last_name()?,
+        }),
+        6 => Some(Request::RenameFunction {
+            function: fields.name()?,
+            to: fields.last_name()?,
+        }),
+        7 => Some(Request::Extract {
+            at: fields.target()?,
+            to: fields.last_name()?,
+        }),
+        8 => Some(Request::InlineBind {
+            at: fields.last_target()?,
+        }),
+        9 => Some(Request::InlineCall {
+            at: fields.last_target()?,
+        }),
+        10 => Some(Request::TurnIf {
+            at: fields.last_target()?,
+        }),
+        11 => Some(Request::DropFunction {
+            function: fields.last_name()?,
+        }),
+        12 => text.is_empty().then_some(Request::Undo),
         _ => None,
     }
 }
@@ -212,8 +100,6 @@ pub fn read(text: &[u8]) -> Option<Request<'_>>
     ensures value { request_told result ≡ asked text.now }
     ensures exact { Exact text.now result }
 {
-    let [kind, rest @ ..] = text else {
-        return None;
-    };
+    let (kind, rest) = text.split_first()?;
     read_kind(*kind, rest)
 }

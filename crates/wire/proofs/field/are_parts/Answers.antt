@@ -1,15 +1,16 @@
--- One number after the other.
-use Rattle.std.proofs.Common.{ltb, sym, ◌∙◌, le-ltb, lt-ltb}
-use Rattle.language.proofs.ListFacts.{every_more, every_not, every-end}
+use Rattle.std.proofs.Common.{◌≡◌, ◌∙◌, rules, nat_lt, Bool, ◌&&◌, List, [], ◌∷◌, refl, ap}
+use Rattle.std.specs.List.{list_all}
+use Rattle.std.proofs.lemmas.Iterator.{YieldsList-from_slice}
+use Rattle.std.proofs.lemmas.Iterator.Search.{all_from_yields_List}
+use borrow.Author.Tests.{tests}
+use Rattle.language.specs.Basics.{every}
 use Rattle.wire.proofs.field.are_parts.Goals as goal
 
-pub loop-part-preserved : goal.loop-part-preserved
-loop-part-preserved c =
-    c.loop-part.invariant ∙ every_more (λ k. ltb k 16) _ _ 0 c.loop-part-test.true (lt-ltb _ _ c.if-part-ge-PART_LIMIT.false)
-
-pub returns-then-part-ge-PART_LIMIT : goal.returns-then-part-ge-PART_LIMIT
-returns-then-part-ge-PART_LIMIT c =
-    sym (c.loop-part.invariant ∙ every_not (λ k. ltb k 16) _ _ 0 c.loop-part-test.true (le-ltb _ _ c.if-part-ge-PART_LIMIT.true))
+every_listed : {A : Type 0} (p : A → Bool) (xs : List A) → list_all p xs ≡ every p xs
+every_listed p [] = refl
+every_listed p (x ∷ xs) = ap (λ b. p x && b) (every_listed p xs)
 
 pub returns : goal.returns
-returns c = sym (c.loop-part.invariant ∙ every-end (λ k. ltb k 16) _ _ c.loop-part-test.false)
+returns c =
+    all_from_yields_List (λ k. nat_lt k 16) _ _ _ c.all.ensures.ran (YieldsList-from_slice c.args.numbers.now cc) (λ x b q k. search (rules, tests))
+    ∙ every_listed (λ k. nat_lt k 16) c.args.numbers.now

@@ -1,16 +1,17 @@
--- One function after the other.
-use Rattle.std.proofs.Common.{◌+◌, ◌-◌, sym, ◌∙◌, arith}
-use Rattle.language.proofs.ContentsFacts.{owns_none, owns_not, owns_cut, owns_more}
+use Rattle.std.proofs.Common.{rules, ap, ◌∙◌}
+use Rattle.std.specs.List.{list_all}
+use Rattle.std.proofs.lemmas.Iterator.Search.{all_from_yields_List}
+use borrow.Author.Tests.{tests}
+use Rattle.language.specs.Names.{distinct}
+use Rattle.wire.specs.Walk.{functions_left, own_after}
+use Rattle.wire.proofs.WalkFacts.{yields_left, owns_listed}
 use Rattle.wire.proofs.program.owns_differ.Goals as goal
 
-pub returns-then-not-own_names_differ : goal.returns-then-not-own_names_differ
-returns-then-not-own_names_differ g c = sym (c.loop-done.invariant ∙ owns_not _ _ _ (c.args.count - (c.loop-done.done + 1)) (omega arith) (sym c.if-not-own_names_differ.ensures))
-
-pub returns-in_default : goal.returns-in_default
-returns-in_default g c = sym (c.loop-done.invariant ∙ owns_cut _ _ _ (c.args.count - (c.loop-done.done + 1)) (omega arith) (sym c.if-not-own_names_differ.ensures) (sym c.in_default.ensures.value))
-
-pub loop-done-preserved : goal.loop-done-preserved
-loop-done-preserved g c = c.loop-done.invariant ∙ owns_more _ _ _ (c.args.count - (c.loop-done.done + 1)) (omega arith) _ (sym c.if-not-own_names_differ.ensures) (sym c.in-Some.ensures.value)
-
 pub returns : goal.returns
-returns g c = sym (c.loop-done.invariant ∙ owns_none _ _ _ 0 (omega arith))
+returns g c =
+    let bs = g.S.Source.bytes c.args.src.now in
+    let all =
+    all_from_yields_List (λ f. distinct (own_after bs f.params)) _ _ c.all.result c.all.ensures.ran
+    (yields_left (λ s. functions_left s.count (g.S.Source.bytes s.src.now) s.first s.before) (λ s. s.src) c.new.result)
+    (λ k b q h. search (rules, tests)) in
+    all ∙ ap (list_all (λ f. distinct (own_after bs f.params))) c.new.ensures ∙ owns_listed bs c.args.count 8

@@ -1,0 +1,57 @@
+// Names in a row of bytes, one after the other.
+ghost use Rattle.std.specs.Prelude.{◌≡◌};
+ghost use Rattle.std.specs.Iterator.{item_count};
+ghost use Rattle.language.specs.Contents.{name_there, names_from};
+ghost use Rattle.language.specs.Names.{has, distinct};
+ghost use Rattle.wire.specs.Walk.{YieldsFirstOf, name_places};
+
+use expr::compare::same_names;
+use expr::source::Source;
+use expr::token::skip_name;
+
+// So many names from `at` on: where each begins. They end early where no name stands.
+#[derive_where(Clone, Copy)]
+pub struct Names<'a, S> {
+    pub src: &'a S,
+    pub count: u64,
+    pub at: usize,
+}
+
+impl<S: Source> Iterator for Names<'_, S> {
+    type Item = usize;
+
+    ghost next_gives = { YieldsFirstOf (λ s. name_places s.count (S.bytes s.src.now) s.at) (λ s. s.src) };
+
+    ghost remaining = { item_count (λ s. name_places s.count (S.bytes s.src.now) s.at) };
+
+    fn next(&mut self) -> Option<usize> {
+        let at = self.at;
+        self.count = self.count.checked_sub(1)?;
+        self.at = skip_name(self.src, at)?;
+        Some(at)
+    }
+}
+
+impl<S: Source> Names<'_, S> {
+    // The name at `at` is one of them.
+    pub fn has(&self, at: usize) -> bool
+        ensures { result ≡ has (names_from self.now.count (S.bytes self.now.src.now) self.now.at) (name_there (S.bytes self.now.src.now) at) }
+    {
+        let src = self.src;
+        let mut names = *self;
+        names.any(|other| same_names(src, at, other))
+    }
+
+    // No two of them are the same.
+    pub fn differ(&self) -> bool
+        ensures { result ≡ distinct (names_from self.now.count (S.bytes self.now.src.now) self.now.at) }
+    {
+        let mut later = *self;
+        while let Some(name) = later.next() {
+            if later.has(name) {
+                return false;
+            }
+        }
+        true
+    }
+}
