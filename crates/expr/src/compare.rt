@@ -1,5 +1,5 @@
 // Names in rows of bytes compared.
-ghost use Rattle.std.specs.Prelude.{◌≡◌, ◌≤◌, length};
+ghost use Rattle.std.specs.Prelude.{◌≡◌};
 ghost use Rattle.expr.specs.Token.{spelled_in};
 ghost use Rattle.language.specs.Basics.{same};
 ghost use Rattle.language.specs.Contents.{name_there};
@@ -7,29 +7,16 @@ ghost use Rattle.language.specs.Contents.{name_there};
 use crate::source::{Source, Text};
 use crate::token::{Span, read_name};
 
-// The same of two spans that lie in their rows.
-fn same_inside<A: Source, B: Source>(a: &A, x: Span, b: &B, y: Span) -> bool
-    requires left { (x.from ≤ x.to) × (x.to ≤ length (A.bytes a.now)) }
-    requires right { (y.from ≤ y.to) × (y.to ≤ length (B.bytes b.now)) }
-    ensures { result ≡ same (spelled_in (A.bytes a.now) x) (spelled_in (B.bytes b.now) y) }
-{
-    let count = x.to - x.from;
-    if y.to - y.from != count {
-        return false;
-    }
-    for k in 0..count {
-        if a.at(x.from + k) != b.at(y.from + k) {
-            return false;
-        }
-    }
-    true
-}
-
 // The bytes in one span are those in the other.
 pub fn same_spans<A: Source, B: Source>(a: &A, x: Span, b: &B, y: Span) -> bool
     ensures { result ≡ same (spelled_in (A.bytes a.now) x) (spelled_in (B.bytes b.now) y) }
 {
-    same_inside(a, x.within(a.len()), b, y.within(b.len()))
+    let x = x.within(a.len());
+    let y = y.within(b.len());
+    x.len() == y.len()
+        && (x.from..x.to)
+            .zip(y.from..y.to)
+            .all(|(i, j)| a.at(i) == b.at(j))
 }
 
 // Where the bytes of the name there lie; an empty span where no name stands.

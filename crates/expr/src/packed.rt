@@ -5,6 +5,7 @@ ghost use Rattle.language.specs.Bytes.{eight};
 
 use crate::source::Source;
 
+// Words and a length, since a program lies so in the lent memory.
 #[derive(Clone, Copy)]
 pub struct Packed<'a> {
     pub words: &'a [u64],

@@ -54,7 +54,8 @@ pub fn skip<S: Source>(src: &S, at: usize) -> Option<usize>
     skip_many(src, 1, at)
 }
 
-// Where so many names end, one after the other.
+// Where so many names end, one after the other. One function for names and functions, over a trait or a closure for what is skipped, would be
+// longer than both.
 pub fn skip_names<S: Source>(src: &S, count: u64, at: usize) -> Option<usize>
     ensures value { result ≡ times count (name_end (S.bytes src.now)) at }
     ensures within { Onward at result (length (S.bytes src.now)) }

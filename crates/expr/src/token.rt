@@ -189,6 +189,7 @@ pub fn read_token<S: Source>(src: &S, at: usize) -> Option<Token>
         return None;
     }
     let rest = at + 1;
+    // The byte is the spelling itself, and this is its one reader.
     match src.at(at) {
         0 => number_token(src, rest),
         1 => read_name(src, rest).map(|name| Token {
