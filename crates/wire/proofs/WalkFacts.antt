@@ -8,10 +8,10 @@ use Rattle.std.proofs.lemmas.Iterator.Consumers.{YieldsList-from_shown}
 use Rattle.language.specs.Basics.{or, pick, each, same}
 use Rattle.language.specs.Bytes.{Name}
 use Rattle.language.specs.Names.{has, distinct}
-use Rattle.language.specs.Reading.{found, number_at, name_end, params_end, expr_end, fun_end}
+use Rattle.language.specs.Reading.{found, name_end, params_end, expr_end, fun_end}
 use Rattle.language.specs.Contents.{listed, passed, name_there, names_from, owns_differ, find_from}
 use Rattle.wire.specs.declared.functions.Function.{Function}
-use Rattle.wire.specs.Walk.{YieldsFirstOf, name_places, functions_from, own_after}
+use Rattle.wire.specs.Walk.{YieldsFirstOf, name_places, functions_from, names_counted}
 
 -- an iterator that gave the first of what was left has less left
 pub one_less : {S A : Type 0} {can : S → Type 0} (rest : S → List A) {s t : S} {x : A} → can t → rest s ≡ x ∷ rest t → MakesProgress can (item_count rest) s (Some x) t
@@ -115,22 +115,22 @@ module _ (bs : List ℕ) (x : Name) where
   find_listed zero i = refl
   find_listed (suc n) i = find_at n i (name_end bs i) refl (find_listed n)
 
-pub own_none : (bs : List ℕ) (j : ℕ) → None ≡ number_at bs j → true ≡ distinct (own_after bs j)
+pub none_differ : (xs : List Name) → [] ≡ xs → true ≡ distinct xs
 unfolding distinct
-own_none bs j e = ap (λ o. distinct (listed o (λ n. names_from n bs (j + 8)))) e
+none_differ xs e = ap distinct e
 
 module _ (bs : List ℕ) where
   abbrev Differ : ℕ → Type 0
-  Differ n = (k : ℕ) → list_all (λ f. distinct (own_after bs f.params)) (functions_from n bs k) ≡ owns_differ n bs k
+  Differ n = (k : ℕ) → list_all (λ f. distinct (names_counted bs f.params)) (functions_from n bs k) ≡ owns_differ n bs k
 
-  owns_next : (n : ℕ) (o : Option ℕ) → Differ n → list_all (λ f. distinct (own_after bs f.params)) (listed o (λ k. functions_from n bs k)) ≡ passed o (λ k. owns_differ n bs k)
+  owns_next : (n : ℕ) (o : Option ℕ) → Differ n → list_all (λ f. distinct (names_counted bs f.params)) (listed o (λ k. functions_from n bs k)) ≡ passed o (λ k. owns_differ n bs k)
   owns_next n None h = refl
   owns_next n (Some k) h = h k
 
-  owns_at : (n i : ℕ) (o : Option ℕ) → name_end bs i ≡ o → Differ n → list_all (λ f. distinct (own_after bs f.params)) (listed o (λ j. record { at = i; params = j } ∷ listed (fun_end bs i) (λ k. functions_from n bs k))) ≡ (distinct (listed o (own_after bs)) && passed (fun_end bs i) (λ k. owns_differ n bs k))
+  owns_at : (n i : ℕ) (o : Option ℕ) → name_end bs i ≡ o → Differ n → list_all (λ f. distinct (names_counted bs f.params)) (listed o (λ j. record { at = i; params = j } ∷ listed (fun_end bs i) (λ k. functions_from n bs k))) ≡ (distinct (listed o (names_counted bs)) && passed (fun_end bs i) (λ k. owns_differ n bs k))
   unfolding distinct
   owns_at n i None e h = sym (ap (λ o. passed (found o (λ j. found (params_end bs j) (λ k. expr_end bs k))) (λ k. owns_differ n bs k)) e)
-  owns_at n i (Some j) e h = ap (λ b. distinct (own_after bs j) && b) (owns_next n (fun_end bs i) h)
+  owns_at n i (Some j) e h = ap (λ b. distinct (names_counted bs j) && b) (owns_next n (fun_end bs i) h)
 
   pub owns_listed : (n : ℕ) → Differ n
   unfolding owns_differ functions_from

@@ -5,6 +5,7 @@ use Rattle.language.specs.Bytes.{Name}
 use Rattle.language.specs.Reading.{number_at, name_end, fun_end}
 use Rattle.language.specs.Contents.{listed, names_from}
 use Rattle.wire.specs.declared.functions.Function.{Function}
+use Rattle.wire.specs.declared.names.Names.{Names}
 
 -- a call from s gave the first of what was left, or nothing where nothing was left, and kept the row that is read
 abbrev pub YieldsFirstOf : {S A R : Type 0} → (S → List A) → (S → R) → S → Option A → S → Type 0
@@ -14,6 +15,14 @@ YieldsFirstOf rest row s r t = YieldsFirst rest s r t × (row t ≡ row s)
 unfoldable pub name_places : ℕ → List ℕ → ℕ → List ℕ
 name_places zero bs i = []
 name_places (suc n) bs i = listed (name_end bs i) (λ j. i ∷ name_places n bs j)
+
+-- the names behind their count, which stands there
+abbrev pub names_counted : List ℕ → ℕ → List Name
+names_counted bs i = listed (number_at bs i) (λ n. names_from n bs (i + 8))
+
+abbrev pub names_told : {S : Type 0} → (S → List ℕ) → Option (Names S) → List Name
+names_told bytes None = []
+names_told bytes (Some s) = names_from s.count (bytes s.src.now) s.at
 
 -- so many functions: where each begins, and where its name ends
 unfoldable pub functions_from : ℕ → List ℕ → ℕ → List Function
@@ -27,7 +36,3 @@ next_place bs i (Some o) = fun_end bs o
 
 abbrev pub functions_left : ℕ → List ℕ → ℕ → Option ℕ → List Function
 functions_left n bs i before = listed (next_place bs i before) (λ k. functions_from n bs k)
-
--- the own names of the function whose name ends there
-abbrev pub own_after : List ℕ → ℕ → List Name
-own_after bs j = listed (number_at bs j) (λ n. names_from n bs (j + 8))

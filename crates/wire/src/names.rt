@@ -1,13 +1,13 @@
 // Names in a row of bytes, one after the other.
-ghost use Rattle.std.specs.Prelude.{◌≡◌};
+ghost use Rattle.std.specs.Prelude.{◌≡◌, IfSome};
 ghost use Rattle.std.specs.Iterator.{item_count};
 ghost use Rattle.language.specs.Contents.{name_there, names_from};
 ghost use Rattle.language.specs.Names.{has, distinct};
-ghost use Rattle.wire.specs.Walk.{YieldsFirstOf, name_places};
+ghost use Rattle.wire.specs.Walk.{YieldsFirstOf, name_places, names_counted, names_told};
 
 use expr::compare::same_names;
 use expr::source::Source;
-use expr::token::skip_name;
+use expr::token::{number, skip_name};
 
 // So many names from `at` on: where each begins. They end early where no name stands.
 #[derive_where(Clone, Copy)]
@@ -32,7 +32,20 @@ impl<S: Source> Iterator for Names<'_, S> {
     }
 }
 
-impl<S: Source> Names<'_, S> {
+impl<'a, S: Source> Names<'a, S> {
+    // The names behind their count, which stands there; none if no number does.
+    pub fn counted(src: &'a S, at: usize) -> Option<Names<'a, S>>
+        ensures value { names_told S.bytes result ≡ names_counted (S.bytes src.now) at }
+        ensures row { IfSome result (λ names. names.src.now ≡ src.now) }
+    {
+        let count = number(src, at)?;
+        Some(Names {
+            src,
+            count,
+            at: at + 8,
+        })
+    }
+
     // The name at `at` is one of them.
     pub fn has(&self, at: usize) -> bool
         ensures { result ≡ has (names_from self.now.count (S.bytes self.now.src.now) self.now.at) (name_there (S.bytes self.now.src.now) at) }

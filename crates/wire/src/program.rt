@@ -2,7 +2,7 @@
 ghost use Rattle.std.specs.Prelude.{◌≡◌};
 ghost use Rattle.language.specs.Contents.{owns_differ, find_function};
 ghost use Rattle.language.specs.Names.{distinct};
-ghost use Rattle.wire.specs.Walk.{own_after};
+ghost use Rattle.wire.specs.Walk.{names_counted};
 
 use crate::functions::Functions;
 use crate::names::Names;
@@ -21,17 +21,12 @@ pub fn find_function<S: Source>(src: &S, name: &[u8]) -> Option<usize>
 
 // No two own names are the same of the function whose name ends there.
 fn own_names_differ<S: Source>(src: &S, params: usize) -> bool
-    ensures { result ≡ distinct (own_after (S.bytes src.now) params) }
+    ensures { result ≡ distinct (names_counted (S.bytes src.now) params) }
 {
-    let Some(count) = number(src, params) else {
-        return true;
-    };
-    let names = Names {
-        src,
-        count,
-        at: params + 8,
-    };
-    names.differ()
+    match Names::counted(src, params) {
+        Some(names) => names.differ(),
+        None => true,
+    }
 }
 
 // In none of `count` functions are two own names the same.

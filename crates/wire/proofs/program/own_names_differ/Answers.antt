@@ -1,5 +1,5 @@
-use Rattle.wire.proofs.WalkFacts.{own_none}
+use Rattle.wire.proofs.WalkFacts.{none_differ}
 use Rattle.wire.proofs.program.own_names_differ.Goals as goal
 
-pub returns-in_default : goal.returns-in_default
-returns-in_default g c = own_none (g.S.Source.bytes c.args.src.now) c.args.params c.in_default.ensures.value
+pub returns-in-None : goal.returns-in-None
+returns-in-None g c = none_differ _ c.in-None.ensures.value
