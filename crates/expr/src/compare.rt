@@ -9,6 +9,12 @@ use crate::token::{Span, skip_name};
 
 // The bytes in one span are those in the other.
 pub fn same_spans<A: Source, B: Source>(a: &A, x: Span, b: &B, y: Span) -> bool
+    ensures { result ≡ same (spelled_in (A.bytes a.now) x) (spelled_in (B.bytes b.now) y) }
+{
+    same_inside(a, x.within(a.len()), b, y.within(b.len()))
+}
+
+fn same_inside<A: Source, B: Source>(a: &A, x: Span, b: &B, y: Span) -> bool
     requires left { (x.from ≤ x.to) × (x.to ≤ length (A.bytes a.now)) }
     requires right { (y.from ≤ y.to) × (y.to ≤ length (B.bytes b.now)) }
     ensures { result ≡ same (spelled_in (A.bytes a.now) x) (spelled_in (B.bytes b.now) y) }

@@ -1,6 +1,6 @@
 // Numbers, names and heads: what stands at a place in a row of bytes, and where it ends.
-ghost use Rattle.std.specs.Prelude.{◌≡◌, ◌+◌, length, Some, None, nat_lt, IfSome};
-ghost use Rattle.expr.specs.Token.{told, operator_read, token_end, HasName, Lies, Room, Within};
+ghost use Rattle.std.specs.Prelude.{◌≡◌, ℕ, ◌+◌, ◌-◌, ◌≤◌, List, length, Some, None, nat_lt, IfSome};
+ghost use Rattle.expr.specs.Token.{told, operator_read, spelled_in, token_end, HasName, Lies, Room, Within};
 ghost use Rattle.language.specs.Basics.{pick};
 ghost use Rattle.language.specs.Heads.{h_var, h_bind};
 ghost use Rattle.language.specs.Reading.{number_at, name_end, num_at, bin_at, call_at, named_at, head_at};
@@ -18,6 +18,28 @@ pub const MAX_VALUES: u8 = 16;
 pub struct Span {
     pub from: usize,
     pub to: usize,
+}
+
+impl Span {
+    // How many bytes it has.
+    pub fn len(self) -> usize
+        ensures { result ≡ self.to - self.from }
+    {
+        self.to.saturating_sub(self.from)
+    }
+
+    // As far as it lies within a row of so many bytes.
+    pub fn within(self, len: usize) -> Span
+        ensures ordered { result.from ≤ result.to }
+        ensures inside { result.to ≤ len }
+        ensures same { (bs : List ℕ) → length bs ≡ len → spelled_in bs result ≡ spelled_in bs self }
+    {
+        let to = self.to.min(len);
+        Span {
+            from: self.from.min(to),
+            to,
+        }
+    }
 }
 
 #[derive(Clone, Copy)]

@@ -1,7 +1,7 @@
 -- One byte of each after the other.
 use Rattle.std.proofs.Common.{sym, ◌∙◌, arith}
 use Rattle.language.proofs.SameFacts.{parts-long, parts_more, parts_not, parts-end}
-use Rattle.expr.proofs.compare.same_spans.Goals as goal
+use Rattle.expr.proofs.compare.same_inside.Goals as goal
 
 pub returns-then-y-count : goal.returns-then-y-count
 returns-then-y-count g c = sym (parts-long _ _ _ _ _ _ (omega arith) (omega arith) (omega arith) (omega arith) c.if-y-count.true)

@@ -2,7 +2,7 @@
 use Rattle.std.proofs.Common.{◌≡◌, drop}
 use Rattle.language.specs.Basics.{same}
 use Rattle.expr.specs.Token.{spelled_in}
-use Rattle.expr.proofs.compare.same_spans.Given as goal
+use Rattle.expr.proofs.compare.same_inside.Given as goal
 
 abbrev pub invariant-loop-k : goal.invariant-loop-k
 invariant-loop-k g l =
