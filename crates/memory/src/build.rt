@@ -46,12 +46,12 @@ fn push(area: &mut Slot, build: Build, byte: u8) -> Build
 pub fn append<S: Source>(area: &mut Slot, build: Build, src: &S, span: Span) -> Option<Build>
     ensures { Appended area.old build (spelled_in (S.bytes src.now) span) result area.new }
 {
-    let span = span.within(src.len());
-    if build.written.saturating_add(span.len()) > MAX_BYTES {
+    let inside = span.within(src.len());
+    if build.written.saturating_add(inside.len()) > MAX_BYTES {
         return None;
     }
     let mut end = build;
-    for i in span.from..span.to {
+    for i in inside.from..inside.to {
         end = push(area, end, src.at(i));
     }
     Some(end)
@@ -81,12 +81,13 @@ pub fn finish(area: &mut Slot, build: Build) -> usize
     ensures value { result ≡ build.written }
     ensures after { area.new ≡ finished (writing area.old build) }
 {
-    if build.written.is_multiple_of(8) {
-        return build.written;
+    let count = build.written;
+    if count.is_multiple_of(8) {
+        return count;
     }
     let mut end = build;
-    for k in build.written % 8..8 {
+    for k in count % 8..8 {
         end = push(area, end, 0);
     }
-    build.written
+    count
 }

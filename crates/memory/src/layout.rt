@@ -1,8 +1,9 @@
 // The machine's memory: which word is what.
-ghost use Rattle.std.specs.Prelude.{◌≡◌, ◌≤◌, true, length, take, slice_set};
+ghost use Rattle.std.specs.Prelude.{◌≡◌, ◌≤◌, length, take, nat_le, slice_set};
+ghost use Rattle.std.specs.List.{list_all};
 ghost use Rattle.language.specs.Basics.{flat};
 ghost use Rattle.language.specs.Bytes.{eight};
-ghost use Rattle.memory.specs.Layout.{lengths_fit, memory_fits, held};
+ghost use Rattle.memory.specs.Layout.{memory_fits, held};
 
 use expr::packed::Packed;
 
@@ -46,7 +47,7 @@ pub type Memory = [u64; MEMORY_WORDS];
 pub type Slot = [u64; SLOT_WORDS];
 
 fn lengths_fit(lengths: &[u64]) -> bool
-    ensures { result ≡ lengths_fit lengths.now }
+    ensures { result ≡ list_all (λ n. nat_le n 65528) lengths.now }
 {
     lengths.iter().all(|length| *length <= MAX_LENGTH)
 }
