@@ -8,7 +8,7 @@ use crate::source::Source;
 use crate::token::{Kind, read_token};
 
 // The node that begins at `at` holds it, as its part of that number.
-#[derive(Clone, Copy)]
+#[derive(Clone, Copy, Debug, PartialEq, Eq)]
 pub struct Holder {
     pub at: usize,
     pub part: usize,

@@ -14,7 +14,7 @@ pub const NUMBER_LIMIT: u64 = 4611686018427387904;
 pub const MAX_VALUES: u8 = 16;
 
 // Where bytes lie in their row: from the first up to, and without, the last.
-#[derive(Clone, Copy)]
+#[derive(Clone, Copy, Debug, PartialEq, Eq)]
 pub struct Span {
     pub from: usize,
     pub to: usize,

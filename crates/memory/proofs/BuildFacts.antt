@@ -1,8 +1,9 @@
 -- What is written byte by byte: how far it is after each, and how pieces are joined. Assumes nothing.
-use Rattle.std.proofs.Common.{◌≡◌, ℕ, ◌+◌, ◌*◌, ◌<◌, ◌≤◌, Bool, true, false, ltb, List, [], ◌∷◌, ◌++◌, length, get_or, drop, set, Some, None, Option, sym, refl, ap, ◌∙◌, subst, arith, ltb-false, ltb-true}
+use Rattle.std.proofs.Common.{◌≡◌, ℕ, ◌+◌, ◌*◌, ◌<◌, ◌≤◌, Bool, true, false, ltb, List, [], ◌∷◌, ◌++◌, length, get_or, drop, set, Some, None, Option, sym, refl, ap, ◌∙◌, subst, arith, ltb-false, ltb-true, lt-ltb}
 use Rattle.std.proofs.lemmas.List.{drop_more, drop_all, length-append}
 use Rattle.language.specs.Basics.{pick}
-use Rattle.memory.specs.Build.{Writing, writing_at, writing, word_with, pushed, pushed_all, Appended, Appends}
+use Rattle.language.proofs.ByteFacts.{bytes_append}
+use Rattle.memory.specs.Build.{Writing, writing_at, writing, word_with, pushed, pushed_all, Pushed, Appended, Appends}
 use Rattle.memory.specs.declared.build.Build.{Build}
 
 abbrev pub written_in : Writing → ℕ
@@ -33,18 +34,24 @@ written_all w (v ∷ vs) h =
 pub record Going (w : Writing) (vs : List ℕ) (k : ℕ) (v : Writing) : Type 0 where
   pub left : pushed_all w vs ≡ pushed_all v (drop k vs)
   pub so_far : Written w v k
+  pub bytes : (j : ℕ) → j < k → ltb (get_or vs j 0) 256 ≡ true
 
 pub going_from : (w : Writing) (vs : List ℕ) → w.filled < 8 → Going w vs 0 w
-going_from w vs h = record { left = refl; so_far = record { filled = h; count = omega arith } }
+going_from w vs h = record { left = refl; so_far = record { filled = h; count = omega arith }; bytes = λ j l. absurd (omega arith) }
 
-pub going_more : (w u v : Writing) (vs : List ℕ) (k b : ℕ) → Going w vs k u → k < length vs → v ≡ pushed u b → b ≡ get_or vs k 0 → Going w vs (k + 1) v
+pub going_more : (w u v : Writing) (vs : List ℕ) (k b : ℕ) → Going w vs k u → k < length vs → v ≡ pushed u b → b ≡ get_or vs k 0 → b < 256 → Going w vs (k + 1) v
 unfolding pushed_all
-going_more w u v vs k b g h e f =
+going_more w u v vs k b g h e f byte =
     let one = written_byte u b g.so_far.filled in
     record {
       left = g.left ∙ ap (pushed_all u) (drop_more vs k 0 h) ∙ ap (λ c. pushed_all (pushed u c) (drop (k + 1) vs)) (sym f) ∙ ap (λ x. pushed_all x (drop (k + 1) vs)) (sym e);
       so_far = subst (λ x. Written w x (k + 1)) (sym e) (record { filled = one.filled; count = omega (arith, one.count, g.so_far.count) });
+      bytes = λ j l. below j (ltb j k) refl l;
     }
+  where
+    below : (j : ℕ) (t : Bool) → ltb j k ≡ t → j < k + 1 → ltb (get_or vs j 0) 256 ≡ true
+    below j true s l = g.bytes j (ltb-true j k s)
+    below j false s l = ap (λ i. ltb (get_or vs i 0) 256) (let z : j ≡ k = omega (arith, ltb-false j k s) in z) ∙ ap (λ v. ltb v 256) (sym f) ∙ lt-ltb b 256 byte
 
 pub going_all : (w v : Writing) (vs : List ℕ) (k : ℕ) → Going w vs k v → length vs ≤ k → v ≡ pushed_all w vs
 unfolding pushed_all
@@ -56,20 +63,23 @@ pushed-append [] vs w = refl
 pushed-append (u ∷ us) vs w = pushed-append us vs (pushed w u)
 
 -- how many bytes are written once some were appended
-pub appended-count : (m : List ℕ) (b : Build) (vs n : List ℕ) (c : Build) → Appends m b vs (Some c) n → c.written ≡ b.written + length vs
-appended-count m b vs n c a =
-    let w = subst (λ v. Written (writing m b) v (length vs)) (sym a.0) (written_all (writing m b) vs (omega arith)) in
+pub appended-count : (m : List ℕ) (b : Build) (vs : List ℕ) (c : Build) (n : List ℕ) → Pushed m b vs c n → c.written ≡ b.written + length vs
+appended-count m b vs c n a =
+    let w = subst (λ v. Written (writing m b) v (length vs)) (sym a.so) (written_all (writing m b) vs (omega arith)) in
     omega (arith, w.count)
 
 -- a piece, and what comes after it
-pub appends_then : (m : List ℕ) (b : Build) (us : List ℕ) (c : Build) (n vs : List ℕ) (r : Option Build) (l : List ℕ) → Appends m b us (Some c) n → Appends n c vs r l →
-    Appends m b (us ++ vs) r l
-appends_then m b us c n vs None l p q = omega (arith, q, appended-count m b us n c p, length-append us vs)
+pub appends_then : (m : List ℕ) (b : Build) (us : List ℕ) (c : Build) (n vs : List ℕ) (r : Option Build) (l : List ℕ) → Pushed m b us c n → Appends n c vs r l → Appends m b (us ++ vs) r l
+appends_then m b us c n vs None l p q = omega (arith, q, appended-count m b us c n p, length-append us vs)
 appends_then m b us c n vs (Some d) l p q =
-    (q.0 ∙ ap (λ w. pushed_all w vs) p.0 ∙ sym (pushed-append us vs (writing m b)), omega (arith, q.1, appended-count m b us n c p, length-append us vs))
+    record {
+      so = q.so ∙ ap (λ w. pushed_all w vs) p.so ∙ sym (pushed-append us vs (writing m b));
+      room = omega (arith, q.room, appended-count m b us c n p, length-append us vs);
+      bytes = bytes_append us vs p.bytes q.bytes;
+    }
 
-pub appends_stop : (m : List ℕ) (b : Build) (us vs n : List ℕ) → Appends m b us None n → Appends m b (us ++ vs) None n
-appends_stop m b us vs n p = omega (arith, p, length-append us vs)
+pub appends_stop : (b : Build) (us vs : List ℕ) → 65536 < b.written + length us → 65536 < b.written + length (us ++ vs)
+appends_stop b us vs p = omega (arith, p, length-append us vs)
 
 -- one piece
 pub appends_one : (m : List ℕ) (b : Build) (vs : List ℕ) (r : Option Build) (n : List ℕ) → Appended m b vs r n → Appends m b vs r n

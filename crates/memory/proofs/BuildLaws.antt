@@ -10,7 +10,8 @@ use Rattle.language.proofs.ListFacts.{every_drop}
 use Rattle.language.proofs.StandsFacts.{bytes_below}
 use Rattle.language.proofs.PackedLaws.{length_packed_words, packed_word}
 use Rattle.memory.specs.Layout.{zero_words, slot_filled}
-use Rattle.memory.specs.Build.{writing_at, pushed_all, finished}
+use Rattle.memory.specs.Build.{writing_at, writing, pushed_all, Pushed, finished}
+use Rattle.memory.specs.declared.build.Build.{Build}
 
 -- words put one after the other
 pub put_each : List ℕ → ℕ → List ℕ → List ℕ
@@ -103,3 +104,8 @@ put_in_zeros (v ∷ vs) m (suc n) few =
 -- what is written from the beginning on stands in the area, with zeros behind
 pub built_law : (bs : List ℕ) → length bs ≤ 65536 → all_bytes bs ≡ true → finished (pushed_all (writing_at (zero_words 8192) 0 0 0) bs) ≡ slot_filled bs
 built_law bs short bytes = laid bs (zero_words 8192) 0 bytes ∙ put_in_zeros (packed bs) [] 8192 (omega (arith, length_packed_words bs))
+
+pub built_begun : (b c : Build) (bs m n : List ℕ) → b ≡ record { written = 0; word = 0 } → m ≡ zero_words 8192 → Pushed m b bs c n → finished (writing n c) ≡ slot_filled bs
+built_begun b c bs m n begun zeros p =
+    ap finished (p.so ∙ ap₂ (λ l a. pushed_all (writing l a) bs) zeros begun)
+    ∙ built_law bs (omega (arith, p.room)) p.bytes

@@ -1,7 +1,8 @@
 -- Writing into the build area, byte by byte: whole words go into the area, and the bytes since the last of them are kept as one number.
 -- Assumes nothing: these are definitions.
-use Rattle.std.specs.Prelude.{◌≡◌, ℕ, ◌+◌, ◌-◌, ◌*◌, ◌/◌, ◌%◌, ◌<◌, ◌≤◌, List, [], ◌∷◌, length, replicate, Some, None, Option, ◌==◌, nat_lt, slice_set}
+use Rattle.std.specs.Prelude.{◌≡◌, ℕ, ◌+◌, ◌-◌, ◌*◌, ◌/◌, ◌%◌, ◌<◌, ◌≤◌, true, List, [], ◌∷◌, length, replicate, Some, None, Option, ◌==◌, nat_lt, slice_set}
 use Rattle.language.specs.Basics.{pick}
+use Rattle.language.specs.Bytes.{all_bytes}
 use Rattle.memory.specs.declared.build.Build.{Build}
 
 -- an area, and how far the writing is in it: whole words, bytes since then, and those as a number
@@ -30,15 +31,21 @@ unfoldable pub pushed_all : Writing → List ℕ → Writing
 pushed_all w [] = w
 pushed_all w (v ∷ vs) = pushed_all (pushed w v) vs
 
+-- the bytes, and they are bytes, were written, for which there was room
+pub record Pushed (m : List ℕ) (b : Build) (vs : List ℕ) (c : Build) (n : List ℕ) : Type 0 where
+  pub so : writing n c ≡ pushed_all (writing m b) vs
+  pub room : b.written + length vs ≤ 65536
+  pub bytes : all_bytes vs ≡ true
+
 -- the bytes are written, if there is room for them
 abbrev pub Appended : List ℕ → Build → List ℕ → Option Build → List ℕ → Type 0
 Appended m b vs None n = (n ≡ m) × (65536 < b.written + length vs)
-Appended m b vs (Some c) n = (writing n c ≡ pushed_all (writing m b) vs) × (b.written + length vs ≤ 65536)
+Appended m b vs (Some c) n = Pushed m b vs c n
 
 -- the bytes are written in several pieces, if there is room for all of them
 abbrev pub Appends : List ℕ → Build → List ℕ → Option Build → List ℕ → Type 0
 Appends m b vs None n = 65536 < b.written + length vs
-Appends m b vs (Some c) n = (writing n c ≡ pushed_all (writing m b) vs) × (b.written + length vs ≤ 65536)
+Appends m b vs (Some c) n = Pushed m b vs c n
 
 -- zeros behind the last byte, up to a whole word
 abbrev pub finished : Writing → List ℕ

@@ -46,6 +46,9 @@ pub type Memory = [u64; MEMORY_WORDS];
 // The words of one program: a slot, the build area, or the list.
 pub type Slot = [u64; SLOT_WORDS];
 
+// What a walk or a check keeps while it is under way.
+pub type Frames = [u64; 5 * SLOT_WORDS];
+
 fn lengths_fit(lengths: &[u64]) -> bool
     ensures { result ≡ list_all (λ n. nat_le n 65528) lengths.now }
 {

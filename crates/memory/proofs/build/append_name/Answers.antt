@@ -11,7 +11,7 @@ returns-in_err-counted c =
     let n = length c.args.name.now in
     let full = subst (λ vs. Appended c.args.area.now c.args.build vs None c.append_bytes.new.area) (c.to_be_bytes.ensures ∙ sym (eight_is n)) c.in_err-counted.ensures in
     subst (λ r. Appends c.args.area.now c.args.build (with_length c.args.name.now) r c.append_bytes.new.area) (sym c.from_residual.ensures)
-    (appends_stop c.args.area.now c.args.build (eight n) c.args.name.now c.append_bytes.new.area full.1)
+    (appends_stop c.args.build (eight n) c.args.name.now full.1)
 
 pub returns : goal.returns
 returns c =

@@ -14,7 +14,7 @@ loop-k-preserved c =
     let end = writing c.push-end.new.area c.push-end.result in
     subst (λ k. Going start (replicate (8 - filled) 0) k end) (let z : c.loop-k.k - filled + 1 ≡ c.loop-k.k + 1 - filled = omega (arith, c.loop-k.auto.k) in z)
     (going_more start (writing c.loop-k.area c.loop-k.end) end (replicate (8 - filled) 0) (c.loop-k.k - filled) 0 c.loop-k.invariant (omega (arith, length-replicate {A = ℕ} (8 - filled) 0, c.loop-k.auto.k))
-    c.push-end.ensures (sym (get_or-replicate (8 - filled) (c.loop-k.k - filled) 0 0 (omega (arith, c.loop-k.auto.k)))))
+    c.push-end.ensures (sym (get_or-replicate (8 - filled) (c.loop-k.k - filled) 0 0 (omega (arith, c.loop-k.auto.k)))) (omega arith))
 
 pub returns-clause-after : goal.returns-clause-after
 returns-clause-after c =
