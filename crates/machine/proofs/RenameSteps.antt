@@ -1,5 +1,5 @@
 -- What the steps that rename tell, case by case, and what they leave in build area, frames and list. Assumes nothing.
-use Rattle.std.proofs.Common.{◌≡◌, ℕ, ◌+◌, ◌<◌, ◌≤◌, Bool, true, List, [], ◌∷◌, ◌++◌, length, get_or, take, drop, Some, None, Option, sym, refl, ap, ◌∙◌, subst, ap₂, arith, le-leb}
+use Rattle.std.proofs.Common.{◌≡◌, ℕ, ◌+◌, ◌<◌, ◌≤◌, Bool, List, [], ◌∷◌, ◌++◌, length, get_or, take, drop, Some, None, Option, sym, refl, ap, ◌∙◌, subst, ap₂, arith, le-leb}
 use Rattle.std.specs.List.{between}
 use lib.ListN.{length-replicate}
 use borrow.Author.Tests.{lt-leb}
@@ -18,8 +18,8 @@ use Rattle.expr.specs.declared.token.Span.{Span}
 use Rattle.expr.specs.Token.{spelled_in}
 use Rattle.model.specs.Capture.{others}
 use Rattle.model.specs.Engine.{done, refused, Step}
-use Rattle.memory.specs.Layout.{memory_words, memory_fits, zero_words, build_at, frames_at, reserve_at, slot, held, put_words, slot_filled, wiped, built}
-use Rattle.memory.proofs.LayoutFacts.{memory-long, front-held, front_fits}
+use Rattle.memory.specs.Layout.{memory_words, zero_words, build_at, frames_at, reserve_at, slot, held, put_words, slot_filled, wiped, built}
+use Rattle.memory.proofs.LayoutFacts.{front-held}
 use Rattle.machine.specs.declared.told.Told.{Told}
 use Rattle.machine.specs.declared.told.Told.TheVariants.{Done, No}
 use Rattle.machine.specs.History.{committed, accepted, changed}
@@ -35,12 +35,7 @@ use Rattle.machine.specs.Renamed.{with_names, program_renamed, Written}
 use Rattle.machine.specs.declared.told.Refusal.{Refusal}
 use Rattle.machine.specs.declared.told.Refusal.TheVariants.{TooLarge}
 use Rattle.machine.specs.Told.{refusal_number, Tells}
-use Rattle.machine.proofs.RegionFacts.{past_fits}
 use Rattle.machine.proofs.StepFacts.{tells_no, tells_done}
-
-pub frames_cleared_fits : (m n : List ℕ) → memory_fits m ≡ true → n ≡ put_words m frames_at (zero_words 49152) → memory_fits n ≡ true
-frames_cleared_fits m n fit e =
-    ap memory_fits e ∙ past_fits m frames_at (zero_words 49152) (omega arith) (omega (arith, length-replicate {A = ℕ} 49152 0)) fit
 
 -- what is wiped depends on header, slots and reserve only
 pub wiped-same : (m n : List ℕ) → take build_at n ≡ take build_at m → drop reserve_at n ≡ drop reserve_at m → wiped n ≡ wiped m
@@ -53,16 +48,16 @@ wiped-same m n front behind =
     zeros_end k = ap (λ j. build_at + j) (length-replicate {A = ℕ} k 0)
 
 -- a program has at least the eight bytes of its count, and one with a new name no fewer
-held_low : (m : List ℕ) → memory_fits m ≡ true → 8 ≤ length (held 0 m)
+held_low : (m : List ℕ) → length m ≡ memory_words → 8 ≤ length (held 0 m)
 unfolding held
-held_low m fit =
+held_low m long =
     omega (
       arith,
       length-take (get_or m 2 0 + 8) (flat eight (slot 0 m)),
       length-packed (slot 0 m),
       length-take 8192 (drop 16 m),
       length-drop 16 m,
-      memory-long m fit,
+      long,
     )
 
 replaced_low : (bs : List ℕ) (x y : Name) (us : List ℕ) → 8 ≤ length bs → 8 ≤ length (names_replaced bs x y us)
@@ -77,8 +72,8 @@ replaced_low bs x y (k ∷ ks) h =
       length-eight (length y),
     )
 
-pub renamed_low : (m : List ℕ) (x y : Name) (us : List ℕ) → memory_fits m ≡ true → 8 ≤ length (names_replaced (held 0 m) x y us)
-renamed_low m x y us fit = replaced_low (held 0 m) x y us (held_low m fit)
+pub renamed_low : (m : List ℕ) (x y : Name) (us : List ℕ) → length m ≡ memory_words → 8 ≤ length (names_replaced (held 0 m) x y us)
+renamed_low m x y us long = replaced_low (held 0 m) x y us (held_low m long)
 
 -- a memory whose header and slots, and reserve, are another's: build area, frames and list lie between
 module _ (m f a b l r n : List ℕ) (is : n ≡ f ++ (a ++ (b ++ (l ++ r)))) (long : length m ≡ memory_words) (front : f ≡ take build_at m) (behind : r ≡ drop reserve_at m)
@@ -99,23 +94,6 @@ module _ (m f a b l r n : List ℕ) (is : n ≡ f ++ (a ++ (b ++ (l ++ r)))) (lo
   area-behind =
       sym (drop-drop 8192 122896 n) ∙ ap (drop 8192) (sym (drop-drop 40960 frames_at n) ∙ ap (drop 40960) past_build ∙ drop_at b (l ++ r) 40960 frames)
       ∙ drop_at l r 8192 list ∙ behind
-
-  pub area-long : length n ≡ length m
-  area-long =
-      omega (
-        arith,
-        ap length is,
-        length-append f (a ++ (b ++ (l ++ r))),
-        length-append a (b ++ (l ++ r)),
-        length-append b (l ++ r),
-        length-append l r,
-        front_long,
-        ap length behind,
-        length-drop reserve_at m,
-      )
-
-  pub area-fits : memory_fits m ≡ true → memory_fits n ≡ true
-  area-fits fit = front_fits m n area-front area-long fit
 
   pub area-wiped : wiped n ≡ wiped m
   area-wiped = wiped-same m n area-front area-behind
@@ -142,9 +120,9 @@ module _ (m f a b l r n : List ℕ) (is : n ≡ f ++ (a ++ (b ++ (l ++ r)))) (lo
   area-accepted bs k e filled = ap (accepted n) e ∙ area-changed bs filled
 
 -- how much is written at least
-pub written-low : (m : List ℕ) (x y : Name) (o : Option (List ℕ)) (k : ℕ) (a : List ℕ) → memory_fits m ≡ true → Written (with_names (held 0 m) x y o) (Ok k) a → 8 ≤ k
-written-low m x y None k a fit p = absurd p
-written-low m x y (Some us) k a fit p = omega (arith, p.0, renamed_low m x y us fit)
+pub written-low : (m : List ℕ) (x y : Name) (o : Option (List ℕ)) (k : ℕ) (a : List ℕ) → length m ≡ memory_words → Written (with_names (held 0 m) x y o) (Ok k) a → 8 ≤ k
+written-low m x y None k a long p = absurd p
+written-low m x y (Some us) k a long p = omega (arith, p.0, renamed_low m x y us long)
 
 -- what was written, by what was listed
 pub written-by : (bs : List ℕ) (x y : Name) (o : Option (List ℕ)) (us : List ℕ) (w : Option ℕ) (r : Result ℕ Refusal) (a : List ℕ) → Some us ≡ o → r ≡ ok_or w TooLarge → Replaced (names_replaced bs x y us) w a →

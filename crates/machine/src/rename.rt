@@ -3,14 +3,14 @@
 //     main(x, y) = let a be x - 2 in if y < a then twice(tell a, y) else x
 //
 // The let called d, and its uses: let d be x - 2 in if y < d then twice(tell d, y) else x. Called x, the x at the end would be another x: refused.
-ghost use Rattle.std.specs.Prelude.{◌≡◌, ◌-◌, ◌≤◌, true, length};
+ghost use Rattle.std.specs.Prelude.{◌≡◌, ◌-◌, ◌≤◌, length};
 ghost use Rattle.machine.specs.History.{accepted};
 ghost use Rattle.machine.specs.Rename.{renamed_step, rename_bind_step, rename_param_step};
 ghost use Rattle.expr.specs.Token.{spelled_in};
 ghost use Rattle.machine.specs.Renamed.{program_renamed, Written};
 ghost use Rattle.machine.specs.Told.{Tells};
 ghost use Rattle.scope.specs.Binding.{binder_of};
-ghost use Rattle.memory.specs.Layout.{memory_fits, held, build_at, frames_at, put_words, zero_words, wiped};
+ghost use Rattle.memory.specs.Layout.{held, build_at, frames_at, put_words, zero_words, wiped};
 
 use crate::history::commit;
 use crate::told::{Refusal, Told, refused};
@@ -47,7 +47,7 @@ fn clear_build(memory: &mut Memory)
 
 // What stands in the build area is the current program, and the one before can be gone back to.
 fn accept(memory: &mut Memory, len: usize)
-    requires { (memory_fits memory.old ≡ true) × (8 ≤ len) }
+    requires { 8 ≤ len }
     ensures { memory.new ≡ accepted memory.old len }
 {
     clear_frames(memory);
@@ -72,7 +72,6 @@ fn write_new<S: Source>(
 
 // What the binder gives is called `to`, and so are its uses: 5 where one would be captured, 7 where the program would be too large.
 fn rename(memory: &mut Memory, binder: Binder, to: &[u8], out: &mut [u8]) -> Told
-    requires { memory_fits memory.old ≡ true }
     ensures { Tells (renamed_step memory.old to.now (binder_of (held 0 memory.old) binder)) result out.old memory.new out.new }
 {
     let (front, areas) = memory.split_at_mut(BUILD);
@@ -98,7 +97,6 @@ fn rename(memory: &mut Memory, binder: Binder, to: &[u8], out: &mut [u8]) -> Tol
 
 // The let at the place is called `to`.
 pub fn rename_bind(memory: &mut Memory, at: Target<'_>, to: &[u8], out: &mut [u8]) -> Told
-    requires { memory_fits memory.old ≡ true }
     ensures { Tells (rename_bind_step memory.old at.entry.function.now at.entry.place.now to.now) result out.old memory.new out.new }
 {
     let program = current(memory);
@@ -125,7 +123,6 @@ pub fn rename_param(
     to: &[u8],
     out: &mut [u8],
 ) -> Told
-    requires { memory_fits memory.old ≡ true }
     ensures { Tells (rename_param_step memory.old function.now index to.now) result out.old memory.new out.new }
 {
     let program = current(memory);

@@ -1,5 +1,5 @@
 // The machine's memory: which word is what.
-ghost use Rattle.std.specs.Prelude.{◌≡◌, ◌<◌, ◌≤◌, length, take, nat_le, slice_set};
+ghost use Rattle.std.specs.Prelude.{◌≡◌, ◌≤◌, length, take, nat_le, slice_set};
 ghost use Rattle.std.specs.List.{list_all};
 ghost use Rattle.language.specs.Basics.{flat};
 ghost use Rattle.language.specs.Bytes.{eight};
@@ -66,8 +66,7 @@ pub fn memory_fits(memory: &[u64]) -> bool
 }
 
 // No answer is under way.
-pub fn end_answer(memory: &mut [u64])
-    requires { 0 < length memory.old }
+pub fn end_answer(memory: &mut Memory)
     ensures { memory.new ≡ slice_set memory.old 0 0 }
 {
     memory[MARK] = 0;

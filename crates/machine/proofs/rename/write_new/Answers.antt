@@ -1,5 +1,5 @@
 -- Listed, and then written.
-use Rattle.std.proofs.Common.{Some, sym, ap, ◌∙◌}
+use Rattle.std.proofs.Common.{sym, ap, ◌∙◌}
 use Rattle.scope.specs.Walks.{count_told}
 use Rattle.machine.proofs.RenameSteps.{written-by}
 use Rattle.machine.proofs.rename.write_new.Goals as goal
