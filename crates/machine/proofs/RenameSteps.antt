@@ -1,5 +1,5 @@
 -- What the steps that rename tell, case by case, and what they leave in build area, frames and list. Assumes nothing.
-use Rattle.std.proofs.Common.{◌≡◌, ℕ, ◌+◌, ◌<◌, ◌≤◌, Bool, true, List, [], ◌∷◌, ◌++◌, length, get_or, take, drop, Some, None, Option, sym, ap, ◌∙◌, subst, ap₂, arith, le-leb}
+use Rattle.std.proofs.Common.{◌≡◌, ℕ, ◌+◌, ◌<◌, ◌≤◌, Bool, List, [], ◌∷◌, ◌++◌, length, get_or, take, drop, Some, None, Option, sym, refl, ap, ◌∙◌, subst, ap₂, arith, le-leb}
 use Rattle.std.specs.List.{between}
 use lib.ListN.{length-replicate}
 use borrow.Author.Tests.{lt-leb}
@@ -18,24 +18,24 @@ use Rattle.expr.specs.declared.token.Span.{Span}
 use Rattle.expr.specs.Token.{spelled_in}
 use Rattle.model.specs.Capture.{others}
 use Rattle.model.specs.Engine.{done, refused, Step}
-use Rattle.memory.specs.Layout.{memory_fits, zero_words, build_at, frames_at, reserve_at, slot, held, put_words, slot_filled, wiped, built}
-use Rattle.memory.specs.Build.{Beside}
-use Rattle.memory.proofs.LayoutFacts.{memory-long, front-held, front_fits}
-use Rattle.scope.specs.Walks.{Kept}
-use Rattle.scope.specs.Splicing.{Replaced}
+use Rattle.memory.specs.Layout.{memory_words, zero_words, build_at, frames_at, reserve_at, slot, held, put_words, slot_filled, wiped, built}
+use Rattle.memory.proofs.LayoutFacts.{front-held}
 use Rattle.machine.specs.declared.told.Told.{Told}
 use Rattle.machine.specs.declared.told.Told.TheVariants.{Done, No}
 use Rattle.machine.specs.History.{committed, accepted, changed}
 use Rattle.machine.specs.Machine.{stepped}
 use Rattle.machine.specs.Rename.{with_some, renamed_step, rename_bind_step, rename_param_step}
-use Rattle.machine.specs.Told.{Tells}
-use Rattle.machine.proofs.RegionFacts.{past_fits}
-use Rattle.machine.proofs.ChangeFacts.{filled_long}
+use Rattle.std.specs.declared.result.Result.{Result}
+use Rattle.std.specs.declared.result.Result.TheVariants.{Ok, Err}
+use Rattle.std.specs.Option.{MatchOption, IfSome, ok_or}
+use Rattle.std.proofs.lemmas.Option.{MatchOption-at_some}
+use Rattle.std.specs.Borrow.{MutBor}
+use Rattle.scope.specs.Splicing.{Replaced}
+use Rattle.machine.specs.Renamed.{with_names, program_renamed, Written}
+use Rattle.machine.specs.declared.told.Refusal.{Refusal}
+use Rattle.machine.specs.declared.told.Refusal.TheVariants.{TooLarge}
+use Rattle.machine.specs.Told.{refusal_number, Tells}
 use Rattle.machine.proofs.StepFacts.{tells_no, tells_done}
-
-pub frames_cleared_fits : (m n : List ℕ) → memory_fits m ≡ true → n ≡ put_words m frames_at (zero_words 49152) → memory_fits n ≡ true
-frames_cleared_fits m n fit e =
-    ap memory_fits e ∙ past_fits m frames_at (zero_words 49152) (omega arith) (omega (arith, length-replicate {A = ℕ} 49152 0)) fit
 
 -- what is wiped depends on header, slots and reserve only
 pub wiped-same : (m n : List ℕ) → take build_at n ≡ take build_at m → drop reserve_at n ≡ drop reserve_at m → wiped n ≡ wiped m
@@ -47,28 +47,17 @@ wiped-same m n front behind =
     zeros_end : (k : ℕ) → build_at + length (zero_words k) ≡ build_at + k
     zeros_end k = ap (λ j. build_at + j) (length-replicate {A = ℕ} k 0)
 
-pub kept-front : (m n : List ℕ) → Kept m n → take build_at n ≡ take build_at m
-kept-front m n k = sym (take-take build_at frames_at n (omega arith)) ∙ ap (take build_at) k.front ∙ take-take build_at frames_at m (omega arith)
-
-pub kept-held : (m n : List ℕ) → Kept m n → held 0 n ≡ held 0 m
-kept-held m n k = front-held m n (kept-front m n k) 0 (omega arith)
-
--- what is written in the memory that the walk left is the same program with the new name
-pub kept-replaced : (m n : List ℕ) → Kept m n → (s : Span) (y : Name) (us : List ℕ) (r : Option ℕ) (l : List ℕ) →
-    Replaced n (names_replaced (held 0 n) (spelled_in (held 0 n) s) y us) r l → Replaced n (names_replaced (held 0 m) (spelled_in (held 0 m) s) y us) r l
-kept-replaced m n k s y us r l t = subst (λ bs. Replaced n (names_replaced bs (spelled_in bs s) y us) r l) (kept-held m n k) t
-
 -- a program has at least the eight bytes of its count, and one with a new name no fewer
-held_low : (m : List ℕ) → memory_fits m ≡ true → 8 ≤ length (held 0 m)
+held_low : (m : List ℕ) → length m ≡ memory_words → 8 ≤ length (held 0 m)
 unfolding held
-held_low m fit =
+held_low m long =
     omega (
       arith,
       length-take (get_or m 2 0 + 8) (flat eight (slot 0 m)),
       length-packed (slot 0 m),
       length-take 8192 (drop 16 m),
       length-drop 16 m,
-      memory-long m fit,
+      long,
     )
 
 replaced_low : (bs : List ℕ) (x y : Name) (us : List ℕ) → 8 ≤ length bs → 8 ≤ length (names_replaced bs x y us)
@@ -83,53 +72,90 @@ replaced_low bs x y (k ∷ ks) h =
       length-eight (length y),
     )
 
-pub renamed_low : (m : List ℕ) (x y : Name) (us : List ℕ) → memory_fits m ≡ true → 8 ≤ length (names_replaced (held 0 m) x y us)
-renamed_low m x y us fit = replaced_low (held 0 m) x y us (held_low m fit)
+pub renamed_low : (m : List ℕ) (x y : Name) (us : List ℕ) → length m ≡ memory_words → 8 ≤ length (names_replaced (held 0 m) x y us)
+renamed_low m x y us long = replaced_low (held 0 m) x y us (held_low m long)
 
-pub beside_behind : (m n : List ℕ) → Beside m n → drop reserve_at n ≡ drop reserve_at m
-beside_behind m n b = sym (drop-drop 49152 frames_at n) ∙ ap (drop 49152) b.behind ∙ drop-drop 49152 frames_at m
+-- a memory whose header and slots, and reserve, are another's: build area, frames and list lie between
+module _ (m f a b l r n : List ℕ) (is : n ≡ f ++ (a ++ (b ++ (l ++ r)))) (long : length m ≡ memory_words) (front : f ≡ take build_at m) (behind : r ≡ drop reserve_at m)
+    (area : length a ≡ 8192) (frames : length b ≡ 40960) (list : length l ≡ 8192) where
+  front_long : length f ≡ build_at
+  front_long = ap length front ∙ length-take-le build_at m (omega arith)
 
--- a program that was written, with zeros in frames and list
-module _ (m n l bs : List ℕ) (fit : memory_fits m ≡ true) (kept : Kept m n) (short : length bs ≤ 65536) (e : l ≡ put_words n build_at (slot_filled bs)) where
-  abbrev rest : List ℕ
-  rest = drop (build_at + length (slot_filled bs)) n
+  pub area-front : take build_at n ≡ take build_at m
+  area-front = ap (take build_at) is ∙ take_at f (a ++ (b ++ (l ++ r))) build_at front_long ∙ front
 
-  front_long : length (take build_at n) ≡ build_at
-  front_long = length-take-le build_at n (omega (arith, kept.long, memory-long m fit))
+  past_front : drop build_at n ≡ a ++ (b ++ (l ++ r))
+  past_front = ap (drop build_at) is ∙ drop_at f (a ++ (b ++ (l ++ r))) build_at front_long
 
-  front_filled : take frames_at (put_words n build_at (slot_filled bs)) ≡ take build_at n ++ slot_filled bs
-  front_filled =
-      ap (take frames_at) (sym (append_assoc (take build_at n) (slot_filled bs) rest))
-      ∙ take_at (take build_at n ++ slot_filled bs) rest frames_at (omega (arith, length-append (take build_at n) (slot_filled bs), front_long, filled_long bs short))
+  past_build : drop frames_at n ≡ b ++ (l ++ r)
+  past_build = sym (drop-drop 8192 build_at n) ∙ ap (drop 8192) past_front ∙ drop_at a (b ++ (l ++ r)) 8192 area
 
-  behind_filled : (k : ℕ) → drop (frames_at + k) (put_words n build_at (slot_filled bs)) ≡ drop (frames_at + k) n
-  behind_filled k =
-      sym (drop-drop k frames_at (put_words n build_at (slot_filled bs)))
-      ∙ ap (drop k)
-      (ap (drop frames_at) (sym (append_assoc (take build_at n) (slot_filled bs) rest))
-      ∙ drop_at (take build_at n ++ slot_filled bs) rest frames_at (omega (arith, length-append (take build_at n) (slot_filled bs), front_long, filled_long bs short))
-      ∙ ap (λ j. drop (build_at + j) n) (filled_long bs short))
-      ∙ drop-drop k frames_at n
+  pub area-behind : drop reserve_at n ≡ drop reserve_at m
+  area-behind =
+      sym (drop-drop 8192 122896 n) ∙ ap (drop 8192) (sym (drop-drop 40960 frames_at n) ∙ ap (drop 40960) past_build ∙ drop_at b (l ++ r) 40960 frames)
+      ∙ drop_at l r 8192 list ∙ behind
 
-  pub cleared_built : put_words l frames_at (zero_words 49152) ≡ built m bs
-  unfolding built
-  cleared_built =
-      ap (λ k. put_words k frames_at (zero_words 49152)) e
-      ∙ ap₂ (λ f r. f ++ (zero_words 49152 ++ r)) front_filled
-      (behind_filled (length (zero_words 49152)) ∙ ap (λ k. drop (frames_at + k) n) (length-replicate {A = ℕ} 49152 0) ∙ kept.behind)
-      ∙ append_assoc (take build_at n) (slot_filled bs) (zero_words 49152 ++ drop reserve_at m)
-      ∙ ap₂ (λ f r. f ++ r) (kept-front m n kept) (sym (append_assoc (slot_filled bs) (zero_words 49152) (drop reserve_at m)))
-      ∙ ap (λ k. take build_at m ++ ((slot_filled bs ++ zero_words 49152) ++ drop (build_at + k) m))
-      (sym (length-append (slot_filled bs) (zero_words 49152) ∙ ap₂ ◌+◌ (filled_long bs short) (length-replicate {A = ℕ} 49152 0)))
+  pub area-wiped : wiped n ≡ wiped m
+  area-wiped = wiped-same m n area-front area-behind
 
-  pub accepted-changed : accepted l (length bs) ≡ changed m bs
-  unfolding accepted changed
-  accepted-changed = ap (λ k. put_words (committed k (length bs)) build_at (zero_words 8192)) cleared_built
+  -- a program that was written, with zeros in frames and list
+  pub area-changed : (bs : List ℕ) → a ≡ slot_filled bs → accepted n (length bs) ≡ changed m bs
+  unfolding accepted changed built
+  area-changed bs filled = ap (λ k. put_words (committed k (length bs)) build_at (zero_words 8192)) cleared_built
+    where
+      front_filled : take frames_at n ≡ take build_at m ++ a
+      front_filled =
+          ap (take frames_at) (is ∙ sym (append_assoc f a (b ++ (l ++ r))))
+          ∙ take_at (f ++ a) (b ++ (l ++ r)) frames_at (omega (arith, length-append f a, front_long)) ∙ ap (λ k. k ++ a) front
 
-  pub written-fits : memory_fits l ≡ true
-  written-fits =
-      ap memory_fits e
-      ∙ past_fits n build_at (slot_filled bs) (omega arith) (omega (arith, filled_long bs short)) (front_fits m n (kept-front m n kept) kept.long fit)
+      cleared_built : put_words n frames_at (zero_words 49152) ≡ built m bs
+      cleared_built =
+          ap₂ (λ k s. k ++ (zero_words 49152 ++ s)) front_filled (ap (λ k. drop (frames_at + k) n) (length-replicate {A = ℕ} 49152 0) ∙ area-behind)
+          ∙ append_assoc (take build_at m) a (zero_words 49152 ++ drop reserve_at m)
+          ∙ ap (λ s. take build_at m ++ s) (sym (append_assoc a (zero_words 49152) (drop reserve_at m)))
+          ∙ ap₂ (λ s k. take build_at m ++ ((s ++ zero_words 49152) ++ drop (build_at + k) m)) filled
+          (let z : 57344 ≡ length (slot_filled bs ++ zero_words 49152) = omega (arith, length-append (slot_filled bs) (zero_words 49152), ap length filled, length-replicate {A = ℕ} 49152 0) in z)
+
+  pub area-accepted : (bs : List ℕ) (k : ℕ) → k ≡ length bs → a ≡ slot_filled bs → accepted n k ≡ changed m bs
+  area-accepted bs k e filled = ap (accepted n) e ∙ area-changed bs filled
+
+-- how much is written at least
+pub written-low : (m : List ℕ) (x y : Name) (o : Option (List ℕ)) (k : ℕ) (a : List ℕ) → length m ≡ memory_words → Written (with_names (held 0 m) x y o) (Ok k) a → 8 ≤ k
+written-low m x y None k a long p = absurd p
+written-low m x y (Some us) k a long p = omega (arith, p.0, renamed_low m x y us long)
+
+-- what was written, by what was listed
+pub written-by : (bs : List ℕ) (x y : Name) (o : Option (List ℕ)) (us : List ℕ) (w : Option ℕ) (r : Result ℕ Refusal) (a : List ℕ) → Some us ≡ o → r ≡ ok_or w TooLarge → Replaced (names_replaced bs x y us) w a →
+    IfSome w (λ n. n ≤ 65536) → Written (with_names bs x y o) r a
+written-by bs x y o us w r a e q p short = subst (λ l. Written (with_names bs x y l) r a) e (subst (λ s. Written (Some (names_replaced bs x y us)) s a) (sym q) (go w p short))
+  where
+    go : (w : Option ℕ) → Replaced (names_replaced bs x y us) w a → IfSome w (λ n. n ≤ 65536) → Written (Some (names_replaced bs x y us)) (ok_or w TooLarge) a
+    go None p short = (refl, p)
+    go (Some k) p short = (p.0, omega (arith, p.0, short), p.1)
+
+-- the first words of a row, and the others
+pub record Chunk (n : ℕ) (s first rest : List ℕ) : Type 0 where
+  pub front : length first ≡ n
+  pub back : rest ≡ drop n s
+  pub long : length rest + n ≡ length s
+
+pub chunk : (o : Option (MutBor (List ℕ) × MutBor (List ℕ))) (p : MutBor (List ℕ) × MutBor (List ℕ)) (n : ℕ) (s : List ℕ) →
+    MatchOption o (length s < n) (λ q. (q.0.now ≡ take n s) × (q.1.now ≡ drop n s) × (length q.1.now + n ≡ length s)) → o ≡ Some p → Chunk n s p.0.now p.1.now
+chunk o p n s m e =
+    let q = MatchOption-at_some (length s < n) (λ q. (q.0.now ≡ take n s) × (q.1.now ≡ drop n s) × (length q.1.now + n ≡ length s)) p e m in
+    record { front = ap length q.0 ∙ length-take-le n s (omega (arith, q.2)); back = q.1; long = q.2 }
+
+pub reserve_is : (m a b c r : List ℕ) → a ≡ drop build_at m → b ≡ drop 8192 a → c ≡ drop 40960 b → r ≡ drop 8192 c → r ≡ drop reserve_at m
+reserve_is m a b c r e f g h =
+    h ∙ ap (drop 8192) (g ∙ ap (drop 40960) (f ∙ ap (drop 8192) e ∙ drop-drop 8192 build_at m) ∙ drop-drop 40960 frames_at m) ∙ drop-drop 8192 122896 m
+
+-- the program in the front of a memory is the memory's
+pub front-same : (m f bs : List ℕ) → f ≡ take build_at m → bs ≡ held 0 f → bs ≡ held 0 m
+front-same m f bs front e = e ∙ front-held m f (ap (take build_at) front ∙ take-take build_at build_at m (omega arith)) 0 (omega arith)
+
+pub written-same : (m bs : List ℕ) → bs ≡ held 0 m → (s : Span) (y : Name) (k i : ℕ) (r : Result ℕ Refusal) (a : List ℕ) → Written (program_renamed bs (spelled_in bs s) y k i) r a →
+    Written (program_renamed (held 0 m) (spelled_in (held 0 m) s) y k i) r a
+written-same m bs e s y k i r a w = subst (λ l. Written (program_renamed l (spelled_in l s) y k i) r a) e w
 
 -- a step by what was found
 module _ {A : Type 0} (o : Option A) (s : Step) (f : A → Step) (r : Told) (out n out₁ : List ℕ) where
@@ -162,6 +188,23 @@ module _ (m : List ℕ) (y : Name) (b : Binder) (out : List ℕ) (r : Told) (n :
         by_some _ _ _ r out n out us e
         (subst (λ t. Tells (pick t (stepped (changed m new) done) (stepped (wiped m) (refused 7))) r out n out) (sym (le-leb (length new) 65536 l))
         (subst (λ l. Tells (stepped l done) r out n out) w (subst (λ q. Tells (stepped n done) q out n out) (sym k) (tells_done n out))))
+
+  -- by what was written of the new program
+  module _ (a : List ℕ) where
+    pub renamed-err : (w : Refusal) → Written (program_renamed (held 0 m) b.name y b.at b.body) (Err w) a → n ≡ wiped m → r ≡ No (refusal_number w) → Tells (renamed_step m y b) r out n out
+    renamed-err w p left told = go (uses_of (held 0 m) b.name y b.at b.body) refl p
+      where
+        go : (o : Option (List ℕ)) → o ≡ uses_of (held 0 m) b.name y b.at b.body → Written (with_names (held 0 m) b.name y o) (Err w) a → Tells (renamed_step m y b) r out n out
+        go None e q = renamed_captured e left (told ∙ ap (λ v. No (refusal_number v)) q)
+        go (Some us) e q = renamed_large us e q.1 left (told ∙ ap (λ v. No (refusal_number v)) q.0)
+
+    pub renamed-ok : (k : ℕ) → Written (program_renamed (held 0 m) b.name y b.at b.body) (Ok k) a → ((bs : List ℕ) → k ≡ length bs → a ≡ slot_filled bs → n ≡ changed m bs) → r ≡ Done →
+        Tells (renamed_step m y b) r out n out
+    renamed-ok k p left told = go (uses_of (held 0 m) b.name y b.at b.body) refl p
+      where
+        go : (o : Option (List ℕ)) → o ≡ uses_of (held 0 m) b.name y b.at b.body → Written (with_names (held 0 m) b.name y o) (Ok k) a → Tells (renamed_step m y b) r out n out
+        go None e q = absurd q
+        go (Some us) e q = renamed-done us e q.1 (left (names_replaced (held 0 m) b.name y us) q.0 q.2) told
 
 -- both steps, in bytes that are the current program's
 module _ (m bs : List ℕ) (e : bs ≡ held 0 m) (y : Name) (r : Told) (out n out₁ : List ℕ) where

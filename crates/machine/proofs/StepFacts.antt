@@ -1,8 +1,12 @@
 -- What a step tells: misuse changes nothing; otherwise it is the machine's own step. Assumes nothing.
-use Rattle.std.proofs.Common.{◌≡◌, ℕ, ◌-◌, ◌<◌, ◌≤◌, Bool, true, false, eqb, leb, List, ◌++◌, length, drop, set, Some, Option, sym, refl, ap, ◌∙◌, subst, arith, eq-eqb, ne_eqb, le-leb}
+use Rattle.std.proofs.Common.{◌≡◌, ℕ, ◌-◌, ◌<◌, ◌≤◌, Bool, true, false, eqb, leb, ◌≢◌, List, ◌++◌, length, drop, set, Some, Option, sym, refl, ap, ◌∙◌, subst, arith, eq-eqb, ne_eqb, le-leb}
 use lib.ListN.{length-replicate}
 use borrow.Author.Tests.{lt-leb}
 use Rattle.std.proofs.lemmas.Bool.{and_parts, and_from, and_left, and_right}
+use Rattle.std.specs.Array.{IsWholeChunk}
+use Rattle.std.specs.Borrow.{MutBor}
+use Rattle.std.specs.Option.{MatchOption}
+use Rattle.std.proofs.lemmas.Option.{MatchOption-at_some}
 use Rattle.language.specs.Basics.{pick}
 use Rattle.wire.specs.declared.request.Request.{Request}
 use Rattle.wire.specs.declared.request.Request.TheVariants.{Load, Show, Names, RenameBind, RenameParam, RenameFunction, Extract, InlineBind, InlineCall, TurnIf, DropFunction, Undo}
@@ -100,3 +104,7 @@ on_none m out r e n = subst (λ t. Tells (pick t (stepped m (refused 0)) (names_
 pub on_next : (m out : List ℕ) (r : Told) (m₁ out₁ : List ℕ) → (mark m ≡ 0 → ⊥) → Tells (names_step m (mark m - 1)) r out m₁ out₁ → Tells (gone_on m) r out m₁ out₁
 unfolding gone_on
 on_next m out r m₁ out₁ e s = subst (λ t. Tells (pick t (stepped m (refused 0)) (names_step m (mark m - 1))) r out m₁ out₁) (sym (ne_eqb (mark m) 0 e)) s
+
+-- the whole of a row
+pub whole_row : (o : Option (MutBor (List ℕ))) (p : MutBor (List ℕ)) (n : ℕ) (s : List ℕ) → MatchOption o (length s ≢ n) (λ y. IsWholeChunk s y.now n) → o ≡ Some p → p.now ≡ s
+whole_row o p n s m e = (MatchOption-at_some (length s ≢ n) (λ y. IsWholeChunk s y.now n) p e m).same

@@ -1,6 +1,5 @@
 // Answers in rows: a function as it is spelled, and functions' names one after the other.
-ghost use Rattle.std.specs.Prelude.{◌≡◌, ◌≤◌, true, length};
-ghost use Rattle.memory.specs.Layout.{memory_fits};
+ghost use Rattle.std.specs.Prelude.{◌≡◌, ◌≤◌, length};
 ghost use Rattle.machine.specs.Machine.{show_step, names_step};
 ghost use Rattle.machine.specs.Told.{Tells};
 
@@ -9,15 +8,15 @@ use crate::told::{Refusal, Told, refused};
 use expr::skip::skip_function;
 use expr::source::Source;
 use expr::token::{Span, skip_name};
-use memory::layout::{MARK, current};
+use memory::layout::{MARK, Memory, current};
 use wire::program::find_function;
 
 // A mark past any program: nothing is left to show.
 const NO_MORE: u64 = 65537;
 
 // One row: the function as it is spelled.
-pub fn show(memory: &mut [u64], function: &[u8], out: &mut [u8]) -> Told
-    requires { (memory_fits memory.old ≡ true) × (131072 ≤ length out.old) }
+pub fn show(memory: &mut Memory, function: &[u8], out: &mut [u8]) -> Told
+    requires { 131072 ≤ length out.old }
     ensures { Tells (show_step memory.old function.now) result out.old memory.new out.new }
 {
     let program = current(memory);
@@ -34,8 +33,8 @@ pub fn show(memory: &mut [u64], function: &[u8], out: &mut [u8]) -> Told
 }
 
 // The name of the function that begins at `at`, or the end of the answer.
-pub fn show_name(memory: &mut [u64], at: usize, out: &mut [u8]) -> Told
-    requires { (memory_fits memory.old ≡ true) × (131072 ≤ length out.old) }
+pub fn show_name(memory: &mut Memory, at: usize, out: &mut [u8]) -> Told
+    requires { 131072 ≤ length out.old }
     ensures { Tells (names_step memory.old at) result out.old memory.new out.new }
 {
     let program = current(memory);

@@ -3,17 +3,20 @@
 //     main(x, y) = let a be x - 2 in if y < a then twice(tell a, y) else x
 //
 // The let called d, and its uses: let d be x - 2 in if y < d then twice(tell d, y) else x. Called x, the x at the end would be another x: refused.
-ghost use Rattle.std.specs.Prelude.{◌≡◌, ◌≤◌, true, length};
+ghost use Rattle.std.specs.Prelude.{◌≡◌, ◌-◌, ◌≤◌, length};
 ghost use Rattle.machine.specs.History.{accepted};
 ghost use Rattle.machine.specs.Rename.{renamed_step, rename_bind_step, rename_param_step};
+ghost use Rattle.expr.specs.Token.{spelled_in};
+ghost use Rattle.machine.specs.Renamed.{program_renamed, Written};
 ghost use Rattle.machine.specs.Told.{Tells};
 ghost use Rattle.scope.specs.Binding.{binder_of};
-ghost use Rattle.memory.specs.Layout.{memory_words, memory_fits, held, build_at, frames_at, put_words, zero_words, wiped};
+ghost use Rattle.memory.specs.Layout.{held, build_at, frames_at, put_words, zero_words, wiped};
 
 use crate::history::commit;
 use crate::told::{Refusal, Told, refused};
 use expr::place::follow;
-use memory::layout::{BUILD, FRAMES, RESERVE, current};
+use expr::source::Source;
+use memory::layout::{BUILD, FRAMES, Frames, Memory, RESERVE, Slot, current};
 use scope::binder::{Binder, body_of, let_at, other_own_is, own_name};
 use scope::renaming::Renaming;
 use scope::replace::write_renamed;
@@ -22,32 +25,29 @@ use wire::field::Target;
 use wire::program::find_function;
 
 // Build area, frames and list are zeros.
-fn wipe(memory: &mut [u64])
-    requires { length memory.old ≡ memory_words }
+fn wipe(memory: &mut Memory)
     ensures { memory.new ≡ wiped memory.old }
 {
     memory[BUILD..RESERVE].fill(0);
 }
 
 // Frames and list are zeros.
-fn clear_frames(memory: &mut [u64])
-    requires { length memory.old ≡ memory_words }
+fn clear_frames(memory: &mut Memory)
     ensures { memory.new ≡ put_words memory.old frames_at (zero_words 49152) }
 {
     memory[FRAMES..RESERVE].fill(0);
 }
 
 // The build area is zeros.
-fn clear_build(memory: &mut [u64])
-    requires { length memory.old ≡ memory_words }
+fn clear_build(memory: &mut Memory)
     ensures { memory.new ≡ put_words memory.old build_at (zero_words 8192) }
 {
     memory[BUILD..FRAMES].fill(0);
 }
 
 // What stands in the build area is the current program, and the one before can be gone back to.
-fn accept(memory: &mut [u64], len: usize)
-    requires { (memory_fits memory.old ≡ true) × (8 ≤ len) }
+fn accept(memory: &mut Memory, len: usize)
+    requires { 8 ≤ len }
     ensures { memory.new ≡ accepted memory.old len }
 {
     clear_frames(memory);
@@ -55,31 +55,48 @@ fn accept(memory: &mut [u64], len: usize)
     clear_build(memory);
 }
 
+// The program with the new name, in the build area: how many bytes it has.
+fn write_new<S: Source>(
+    renaming: &Renaming<'_, S>,
+    body: usize,
+    area: &mut Slot,
+    frames: &mut Frames,
+    list: &mut Slot,
+) -> Result<usize, Refusal>
+    ensures long { (length area.new ≡ 8192) × (length frames.new ≡ 40960) × (length list.new ≡ 8192) }
+    ensures written { let bs = S.bytes renaming.now.program.now in Written (program_renamed bs (spelled_in bs renaming.now.from) renaming.now.to.now (renaming.now.from.from - 8) body) result area.new }
+{
+    let count = list_uses(renaming, body, frames, list).ok_or(Refusal::Captured)?;
+    write_renamed(renaming, &list[..count], area).ok_or(Refusal::TooLarge)
+}
+
 // What the binder gives is called `to`, and so are its uses: 5 where one would be captured, 7 where the program would be too large.
-fn rename(memory: &mut [u64], binder: Binder, to: &[u8], out: &mut [u8]) -> Told
-    requires memory { memory_fits memory.old ≡ true }
-    requires lies { (8 ≤ binder.name.from) × ((binder.name.from ≤ binder.name.to) × (binder.name.to ≤ length (held 0 memory.old))) }
+fn rename(memory: &mut Memory, binder: Binder, to: &[u8], out: &mut [u8]) -> Told
     ensures { Tells (renamed_step memory.old to.now (binder_of (held 0 memory.old) binder)) result out.old memory.new out.new }
 {
+    let (front, areas) = memory.split_at_mut(BUILD);
+    let (area, areas) = areas.split_first_chunk_mut().unwrap();
+    let (frames, areas) = areas.split_first_chunk_mut().unwrap();
+    let (list, _reserve) = areas.split_first_chunk_mut().unwrap();
     let renaming = Renaming {
+        program: &current(front),
         from: binder.name,
         to,
     };
-    let Some(count) = list_uses(memory, renaming, binder.body) else {
-        wipe(memory);
-        return refused(Refusal::Captured);
-    };
-    let Some(len) = write_renamed(memory, renaming, count) else {
-        wipe(memory);
-        return refused(Refusal::TooLarge);
-    };
-    accept(memory, len);
-    Told::Done
+    match write_new(&renaming, binder.body, area, frames, list) {
+        Ok(len) => {
+            accept(memory, len);
+            Told::Done
+        }
+        Err(why) => {
+            wipe(memory);
+            refused(why)
+        }
+    }
 }
 
 // The let at the place is called `to`.
-pub fn rename_bind(memory: &mut [u64], at: Target<'_>, to: &[u8], out: &mut [u8]) -> Told
-    requires { memory_fits memory.old ≡ true }
+pub fn rename_bind(memory: &mut Memory, at: Target<'_>, to: &[u8], out: &mut [u8]) -> Told
     ensures { Tells (rename_bind_step memory.old at.entry.function.now at.entry.place.now to.now) result out.old memory.new out.new }
 {
     let program = current(memory);
@@ -100,13 +117,12 @@ pub fn rename_bind(memory: &mut [u64], at: Target<'_>, to: &[u8], out: &mut [u8]
 
 // The own name of that number is called `to`.
 pub fn rename_param(
-    memory: &mut [u64],
+    memory: &mut Memory,
     function: &[u8],
     index: u8,
     to: &[u8],
     out: &mut [u8],
 ) -> Told
-    requires { memory_fits memory.old ≡ true }
     ensures { Tells (rename_param_step memory.old function.now index to.now) result out.old memory.new out.new }
 {
     let program = current(memory);

@@ -1,6 +1,5 @@
 // One step of the machine.
-ghost use Rattle.std.specs.Prelude.{◌≡◌, ◌≤◌, true, length};
-ghost use Rattle.memory.specs.Layout.{memory_fits};
+ghost use Rattle.std.specs.Prelude.{◌≡◌, ◌≤◌, length};
 ghost use Rattle.machine.specs.Machine.{ask_step, gone_on, by_event, own};
 ghost use Rattle.machine.specs.Told.{Loadable, Tells, StepSays, step_fits};
 ghost use Rattle.model.specs.Engine.{said};
@@ -12,7 +11,7 @@ use crate::answers::{show, show_name};
 use crate::history::undo;
 use crate::load::load;
 use crate::told::{Refusal, Told, refused};
-use memory::layout::{MARK, end_answer, memory_fits};
+use memory::layout::{MARK, Memory, end_answer, memory_fits};
 use wire::request::{Request, read};
 
 // The kinds of a step: a command is said, or the machine is to go on.
@@ -27,8 +26,8 @@ const FIRST_FUNCTION: usize = 8;
 pub const ROW_BYTES: usize = 131072;
 
 // A command that was read.
-fn answer(memory: &mut [u64], request: Request<'_>, out: &mut [u8]) -> Told
-    requires { (memory_fits memory.old ≡ true) × ((131072 ≤ length out.old) × (Loadable request)) }
+fn answer(memory: &mut Memory, request: Request<'_>, out: &mut [u8]) -> Told
+    requires { (131072 ≤ length out.old) × (Loadable request) }
     ensures { Tells (ask_step memory.old (request_asks request.entry)) result out.old memory.new out.new }
 {
     match request {
@@ -48,8 +47,8 @@ fn answer(memory: &mut [u64], request: Request<'_>, out: &mut [u8]) -> Told
 }
 
 // A command is said: the answer under way ends, whatever becomes of the new one.
-fn obey(memory: &mut [u64], text: &[u8], out: &mut [u8]) -> Told
-    requires { (memory_fits memory.old ≡ true) × (131072 ≤ length out.old) }
+fn obey(memory: &mut Memory, text: &[u8], out: &mut [u8]) -> Told
+    requires { 131072 ≤ length out.old }
     ensures { Tells (by_event memory.old (said text.now)) result out.old memory.new out.new }
 {
     end_answer(memory);
@@ -60,8 +59,8 @@ fn obey(memory: &mut [u64], text: &[u8], out: &mut [u8]) -> Told
 }
 
 // The next row of the answer under way, or its end.
-fn go_on(memory: &mut [u64], out: &mut [u8]) -> Told
-    requires { (memory_fits memory.old ≡ true) × (131072 ≤ length out.old) }
+fn go_on(memory: &mut Memory, out: &mut [u8]) -> Told
+    requires { 131072 ≤ length out.old }
     ensures { Tells (gone_on memory.old) result out.old memory.new out.new }
 {
     let mark = memory[MARK];
@@ -85,6 +84,7 @@ pub fn step(memory: &mut [u64], kind: u64, text: &[u8], out: &mut [u8]) -> Told
     if !memory_fits(memory) {
         return refused(Refusal::Misuse);
     }
+    let memory: &mut Memory = memory.as_mut_array().unwrap();
     if kind == GO_ON {
         return go_on(memory, out);
     }

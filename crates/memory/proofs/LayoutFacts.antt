@@ -24,8 +24,8 @@ unfolding held
 held-long k m =
     omega (arith, length-take (get_or m (2 + k) 0 + 8) (flat eight (slot k m)), length-packed (slot k m), length-take 8192 (drop (16 + k * 8192) m))
 
-pub held_short : (m : List ℕ) → memory_fits m ≡ true → (bs : List ℕ) → bs ≡ held 0 m → length bs ≤ 65536
-held_short m h bs e = omega (arith, ap length e, held-long 0 m)
+pub held_short : (m bs : List ℕ) → bs ≡ held 0 m → length bs ≤ 65536
+held_short m bs e = omega (arith, ap length e, held-long 0 m)
 
 -- memories with the same header and slots: the same words there, the same programs held, and both fit or neither
 module _ (m n : List ℕ) (e : take build_at n ≡ take build_at m) where

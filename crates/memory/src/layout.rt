@@ -1,8 +1,9 @@
 // The machine's memory: which word is what.
-ghost use Rattle.std.specs.Prelude.{◌≡◌, true, length, take, slice_set};
+ghost use Rattle.std.specs.Prelude.{◌≡◌, ◌≤◌, length, take, nat_le, slice_set};
+ghost use Rattle.std.specs.List.{list_all};
 ghost use Rattle.language.specs.Basics.{flat};
 ghost use Rattle.language.specs.Bytes.{eight};
-ghost use Rattle.memory.specs.Layout.{memory_words, lengths_fit, memory_fits, held};
+ghost use Rattle.memory.specs.Layout.{memory_fits, held};
 
 use expr::packed::Packed;
 
@@ -40,48 +41,44 @@ pub const MAX_OLDER: u64 = 8;
 
 pub const MAX_LENGTH: u64 = 65528;
 
+pub type Memory = [u64; MEMORY_WORDS];
+
+// The words of one program: a slot, the build area, or the list.
+pub type Slot = [u64; SLOT_WORDS];
+
+// What a walk or a check keeps while it is under way.
+pub type Frames = [u64; 5 * SLOT_WORDS];
+
 fn lengths_fit(lengths: &[u64]) -> bool
-    ensures { result ≡ lengths_fit lengths.now }
+    ensures { result ≡ list_all (λ n. nat_le n 65528) lengths.now }
 {
-    for length in lengths {
-        if *length > MAX_LENGTH {
-            return false;
-        }
-    }
-    true
+    lengths.iter().all(|length| *length <= MAX_LENGTH)
 }
 
 // A memory of the machine's length, and the header's words within their limits.
 pub fn memory_fits(memory: &[u64]) -> bool
     ensures { result ≡ memory_fits memory.now }
 {
-    if memory.len() != MEMORY_WORDS {
-        return false;
-    }
-    if memory[MARK] > MAX_MARK {
-        return false;
-    }
-    if memory[OLDER] > MAX_OLDER {
-        return false;
-    }
-    lengths_fit(&memory[LENGTHS..LENGTHS + SLOTS])
+    memory.len() == MEMORY_WORDS
+        && memory[MARK] <= MAX_MARK
+        && memory[OLDER] <= MAX_OLDER
+        && lengths_fit(&memory[LENGTHS..LENGTHS + SLOTS])
 }
 
 // No answer is under way.
-pub fn end_answer(memory: &mut [u64])
-    requires { length memory.old ≡ memory_words }
+pub fn end_answer(memory: &mut Memory)
     ensures { memory.new ≡ slice_set memory.old 0 0 }
 {
     memory[MARK] = 0;
 }
 
-// The current program's bytes.
+// The current program's bytes, in the header and slots of a memory.
 pub fn current(memory: &[u64]) -> Packed<'_>
-    requires { memory_fits memory.now ≡ true }
+    requires { 8208 ≤ length memory.now }
     ensures { take result.len (flat eight result.words.now) ≡ held 0 memory.now }
 {
     Packed {
         words: &memory[CURRENT..NEWEST_OLDER],
-        len: memory[LENGTHS] as usize + 8,
+        len: (memory[LENGTHS] as usize).saturating_add(8),
     }
 }

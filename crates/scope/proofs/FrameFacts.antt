@@ -1,8 +1,7 @@
--- A frame that is put is there, the older ones stay, and nothing but the frames changes. Assumes nothing.
-use Rattle.std.proofs.Common.{◌≡◌, ℕ, zero, suc, ◌+◌, ◌<◌, ◌≤◌, Bool, true, false, List, ◌∷◌, length, get_or, take, drop, set, sym, refl, ap, ◌∙◌, ap₂, arith}
-use Rattle.std.proofs.lemmas.List.{length-set, take-set-le, drop-set-lt, get_or-set_same, get_or-set_other, get_or-take}
+-- A frame that is put is there, and the older ones stay. Assumes nothing.
+use Rattle.std.proofs.Common.{◌≡◌, ℕ, zero, suc, ◌+◌, ◌<◌, Bool, true, false, List, ◌∷◌, length, get_or, set, refl, ap, ◌∙◌, ap₂, arith}
+use Rattle.std.proofs.lemmas.List.{length-set, get_or-set_same, get_or-set_other}
 use Rattle.language.specs.Uses.{Frame, frame, holder, scope}
-use Rattle.memory.specs.Layout.{memory_words, frames_at, list_at}
 use Rattle.scope.specs.Frames.{frame_from, flag, flagged, frame_at, frame_put, stacked}
 
 abbrev pub put_flags : List ℕ → ℕ → ℕ → ℕ → ℕ → ℕ → ℕ → List ℕ
@@ -13,7 +12,7 @@ flag_back : (b : Bool) → flagged (flag b) ≡ b
 flag_back true = refl
 flag_back false = refl
 
-module _ (m : List ℕ) (t : ℕ) (f : Frame) (long : length m ≡ memory_words) (few : t < 8192) where
+module _ (m : List ℕ) (t : ℕ) (f : Frame) (long : length m ≡ 40960) (few : t < 8192) where
   abbrev m₁ : List ℕ
   m₁ = set m (frame_from t) f.holder.at
 
@@ -26,35 +25,17 @@ module _ (m : List ℕ) (t : ℕ) (f : Frame) (long : length m ≡ memory_words)
   abbrev m₄ : List ℕ
   m₄ = set m₃ (frame_from t + 3) (flag f.around.old)
 
-  long₁ : length m₁ ≡ memory_words
+  long₁ : length m₁ ≡ 40960
   long₁ = length-set m (frame_from t) f.holder.at ∙ long
 
-  long₂ : length m₂ ≡ memory_words
+  long₂ : length m₂ ≡ 40960
   long₂ = length-set m₁ (frame_from t + 1) f.holder.part ∙ long₁
 
-  long₃ : length m₃ ≡ memory_words
+  long₃ : length m₃ ≡ 40960
   long₃ = length-set m₂ (frame_from t + 2) f.parts ∙ long₂
 
-  long₄ : length m₄ ≡ memory_words
+  long₄ : length m₄ ≡ 40960
   long₄ = length-set m₃ (frame_from t + 3) (flag f.around.old) ∙ long₃
-
-  pub put_long : length (frame_put m t f) ≡ length m
-  unfolding frame_put
-  put_long = length-set m₄ (frame_from t + 4) (flag f.around.new) ∙ long₄ ∙ sym long
-
-  pub put_front : take frames_at (frame_put m t f) ≡ take frames_at m
-  unfolding frame_put
-  put_front =
-      take-set-le frames_at m₄ (frame_from t + 4) _ (omega arith) ∙ take-set-le frames_at m₃ (frame_from t + 3) _ (omega arith)
-      ∙ take-set-le frames_at m₂ (frame_from t + 2) _ (omega arith) ∙ take-set-le frames_at m₁ (frame_from t + 1) _ (omega arith)
-      ∙ take-set-le frames_at m (frame_from t) _ (omega arith)
-
-  pub put_behind : drop list_at (frame_put m t f) ≡ drop list_at m
-  unfolding frame_put
-  put_behind =
-      drop-set-lt list_at m₄ (frame_from t + 4) _ (omega arith) ∙ drop-set-lt list_at m₃ (frame_from t + 3) _ (omega arith)
-      ∙ drop-set-lt list_at m₂ (frame_from t + 2) _ (omega arith) ∙ drop-set-lt list_at m₁ (frame_from t + 1) _ (omega arith)
-      ∙ drop-set-lt list_at m (frame_from t) _ (omega arith)
 
   -- a word before the frame
   put_before : (i : ℕ) → i < frame_from t → get_or (frame_put m t f) i 0 ≡ get_or m i 0
@@ -105,14 +86,9 @@ stacked-same m n zero same = refl
 stacked-same m n (suc t) same = ap₂ ◌∷◌ (frame_same m n t same) (stacked-same m n t (λ i h. same i (omega arith)))
 
 -- one more frame
-pub stacked_more : (m : List ℕ) (t : ℕ) (f : Frame) → length m ≡ memory_words → t < 8192 → stacked (frame_put m t f) (suc t) ≡ f ∷ stacked m t
+pub stacked_more : (m : List ℕ) (t : ℕ) (f : Frame) → length m ≡ 40960 → t < 8192 → stacked (frame_put m t f) (suc t) ≡ f ∷ stacked m t
 unfolding stacked
 stacked_more m t f long few = ap₂ ◌∷◌ (put_there m t f long few) (stacked-same m (frame_put m t f) t (put_before m t f long few))
-
--- what is written behind the frames leaves them
-pub stacked-behind : (m n : List ℕ) (t : ℕ) → t ≤ 8192 → take list_at n ≡ take list_at m → stacked n t ≡ stacked m t
-stacked-behind m n t few e =
-    stacked-same m n t (λ i h. sym (get_or-take list_at n i 0 (omega arith)) ∙ ap (λ l. get_or l i 0) e ∙ get_or-take list_at m i 0 (omega arith))
 
 pub stacked_count : (m : List ℕ) (t : ℕ) → length (stacked m t) ≡ t
 unfolding stacked

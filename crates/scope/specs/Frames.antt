@@ -1,8 +1,7 @@
--- Frames in the machine's memory, five words for each. Assumes nothing: these are definitions.
+-- Frames of a walk, five words for each. Assumes nothing: these are definitions.
 use Rattle.std.specs.Prelude.{ℕ, zero, suc, ◌+◌, ◌*◌, Bool, not, List, [], ◌∷◌, set, ◌==◌, slice_index, slice_set}
 use Rattle.language.specs.Basics.{pick}
 use Rattle.language.specs.Uses.{Frame, frame, holder, scope}
-use Rattle.memory.specs.Layout.{frames_at}
 use Rattle.scope.specs.declared.frames.Frame as code
 use Rattle.scope.specs.Scopes.{scope_told}
 
@@ -11,7 +10,7 @@ frame_told f = frame (holder f.holder.at f.holder.part) f.parts (scope_told f.ar
 
 -- where the tth frame begins
 abbrev pub frame_from : ℕ → ℕ
-frame_from t = frames_at + t * 5
+frame_from t = t * 5
 
 abbrev pub flag : Bool → ℕ
 flag b = pick b 1 0

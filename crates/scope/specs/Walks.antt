@@ -1,21 +1,25 @@
 -- A walk of the code, and what one visit of a node makes of it. Assumes nothing: these are definitions.
-use Rattle.std.specs.Prelude.{◌≡◌, ℕ, suc, ◌<◌, ◌≤◌, Bool, List, ◌∷◌, length, take, drop, Some, None, Option, nat_lt}
+use Rattle.std.specs.Prelude.{◌≡◌, ℕ, suc, ◌≤◌, Bool, List, ◌∷◌, length, take, Some, None, Option, nat_lt}
+use Rattle.std.specs.declared.ops.ControlFlow.{ControlFlow}
+use Rattle.std.specs.declared.ops.ControlFlow.TheVariants.{Continue, Break}
 use Rattle.expr.specs.Node.{holder_told}
 use Rattle.expr.specs.Token.{kind_told}
 use Rattle.language.specs.Basics.{pick}
 use Rattle.language.specs.Bytes.{Name}
 use Rattle.language.specs.Reading.{found, Token, token, head_at}
 use Rattle.language.specs.Uses.{Scope, frame, Walk, walk, Holder, holder, most_frames, scope_in, head_changes, uses_from}
-use Rattle.memory.specs.Layout.{frames_at, list_at, reserve_at, listed}
-use Rattle.scope.specs.declared.uses.Walk as code
+use Rattle.scope.specs.declared.walk.Walk as code
 use Rattle.scope.specs.declared.uses.Seen as seen-code
-use Rattle.scope.specs.declared.uses.Visit.{Visit}
-use Rattle.scope.specs.declared.uses.Visit.TheVariants.{On, Done, Stopped}
 use Rattle.scope.specs.Scopes.{scope_told}
 use Rattle.scope.specs.Frames.{stacked}
 
-abbrev pub walk_told : List ℕ → code.Walk → Walk
-walk_told m w = walk (holder_told w.holder) (scope_told w.around) (stacked m w.frames) (listed m w.uses)
+-- a walk that has these frames, and lists these uses
+abbrev pub walk_in : List ℕ → List ℕ → code.Walk → Walk
+walk_in f us w = walk (holder_told w.holder) (scope_told w.around) (stacked f w.frames) us
+
+-- the uses are the first words of the list
+abbrev pub walk_told : List ℕ → List ℕ → code.Walk → Walk
+walk_told f l w = walk_in f (take w.uses l) w
 
 -- what is seen at a node: its head and end, its scope, and whether it is a use that changes
 pub record Sight : Type 0 where
@@ -34,49 +38,31 @@ abbrev pub seen_told : List ℕ → Option seen-code.Seen → Option Sight
 seen_told bs None = None
 seen_told bs (Some s) = Some (sight (token (kind_told bs s.node.kind) s.node.end) (scope_told s.scope) s.changes)
 
--- a node that is seen ends within the program, which has at most 65,536 bytes
-abbrev pub SeenWithin : ℕ → Option seen-code.Seen → Type 0
-SeenWithin i None = Unit {0}
-SeenWithin i (Some s) = (i < s.node.end) × (s.node.end ≤ 65536)
-
--- header, slots and build area, and the reserve, are as they were
-pub record Kept (m n : List ℕ) : Type 0 where
-  pub long : length n ≡ length m
-  pub front : take frames_at n ≡ take frames_at m
-  pub behind : drop reserve_at n ≡ drop reserve_at m
-
--- how many uses are listed then; none where there is no room
+-- the uses that are listed then; none where there is no room
 abbrev pub count_told : List ℕ → Option ℕ → Option (List ℕ)
-count_told m None = None
-count_told m (Some n) = Some (listed m n)
+count_told l None = None
+count_told l (Some n) = Some (take n l)
 
-abbrev pub Few : Option ℕ → Type 0
-Few None = Unit {0}
-Few (Some n) = n ≤ 8192
+-- what comes of a visit: the walk goes on, or is over with so many uses; none where it is stopped
+abbrev pub Visit : Type 0
+Visit = Option (ControlFlow ℕ code.Walk)
 
--- nothing but the frames changes
-pub record Framed (m n : List ℕ) : Type 0 where
-  pub long : length n ≡ length m
-  pub front : take frames_at n ≡ take frames_at m
-  pub behind : drop list_at n ≡ drop list_at m
+-- what a visit leads to, by what the walk from there on comes to, where these uses are listed
+abbrev pub led_to : (Walk → Option (List ℕ)) → List ℕ → List ℕ → Visit → Option (List ℕ)
+led_to go us f (Some (Continue w)) = go (walk_in f us w)
+led_to go us f (Some (Break n)) = Some us
+led_to go us f None = None
 
--- what a visit leads to, by what the walk from there on comes to
-abbrev pub led_to : (Walk → Option (List ℕ)) → List ℕ → Visit → Option (List ℕ)
-led_to go m (On w) = go (walk_told m w)
-led_to go m (Done n) = Some (listed m n)
-led_to go m Stopped = None
+-- the next expression begins there, and so many uses are listed
+abbrev pub LeadsOn : ℕ → ℕ → Visit → Type 0
+LeadsOn i n (Some (Continue w)) = (w.at ≡ i) × (w.uses ≡ n)
+LeadsOn i n (Some (Break k)) = k ≡ n
+LeadsOn i n None = Unit {0}
 
--- the next expression begins there, and counts are within their limits
-abbrev pub VisitFits : ℕ → Visit → Type 0
-VisitFits i (On w) = (w.at ≡ i) × (w.frames ≤ 8192) × (w.uses ≤ 8192)
-VisitFits i (Done n) = n ≤ 8192
-VisitFits i Stopped = Unit {0}
-
--- the walk goes on at i as `next` has it
-pub record GoesOn (m n : List ℕ) (i : ℕ) (next : (Walk → Option (List ℕ)) → Option (List ℕ)) (r : Visit) : Type 0 where
-  pub to : (go : Walk → Option (List ℕ)) → next go ≡ led_to go n r
-  pub fits : VisitFits i r
-  pub kept : Framed m n
+-- the walk goes on at i as `next` has it, with frames f and so many uses listed
+pub record GoesOn (f : List ℕ) (i n : ℕ) (next : (Walk → Option (List ℕ)) → List ℕ → Option (List ℕ)) (r : Visit) : Type 0 where
+  pub to : (go : Walk → Option (List ℕ)) (us : List ℕ) → next go us ≡ led_to go us f r
+  pub on : LeadsOn i n r
 
 -- a frame for the parts after the first
 abbrev pub frame_opened : (Walk → Option (List ℕ)) → Walk → ℕ → ℕ → Option (List ℕ)
@@ -84,18 +70,17 @@ frame_opened go w i n =
     pick (nat_lt (length w.frames) most_frames) (go (walk w.holder w.around (frame (holder i 1) n w.around ∷ w.frames) w.uses)) None
 
 -- what the walk comes to after a visit, if so many more heads may be read
-abbrev pub visited : ℕ → List ℕ → Name → Name → List ℕ → Visit → Option (List ℕ)
-visited n bs x y m (On w) = uses_from n bs x y (walk_told m w) w.at
-visited n bs x y m (Done k) = Some (listed m k)
-visited n bs x y m Stopped = None
+abbrev pub visited : ℕ → List ℕ → Name → Name → List ℕ → List ℕ → Visit → Option (List ℕ)
+visited n bs x y f l (Some (Continue w)) = uses_from n bs x y (walk_told f l w) w.at
+visited n bs x y f l (Some (Break k)) = Some (take k l)
+visited n bs x y f l None = None
 
-abbrev pub VisitFew : Visit → Type 0
-VisitFew (On w) = (w.frames ≤ 8192) × (w.uses ≤ 8192)
-VisitFew (Done n) = n ≤ 8192
-VisitFew Stopped = Unit {0}
+abbrev pub EndsFew : Visit → Type 0
+EndsFew (Some (Continue w)) = Unit {0}
+EndsFew (Some (Break n)) = n ≤ 8192
+EndsFew None = Unit {0}
 
 -- one turn of the walk
-pub record Visits (bs : List ℕ) (x y : Name) (m : List ℕ) (w : code.Walk) (n : List ℕ) (r : Visit) : Type 0 where
-  pub turn : (k : ℕ) → uses_from (suc k) bs x y (walk_told m w) w.at ≡ visited k bs x y n r
-  pub few : VisitFew r
-  pub kept : Kept m n
+pub record Visits (bs : List ℕ) (x y : Name) (f l : List ℕ) (w : code.Walk) (f₁ l₁ : List ℕ) (r : Visit) : Type 0 where
+  pub turn : (k : ℕ) → uses_from (suc k) bs x y (walk_told f l w) w.at ≡ visited k bs x y f₁ l₁ r
+  pub few : EndsFew r

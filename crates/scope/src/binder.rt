@@ -11,7 +11,7 @@ use expr::skip::{skip, skip_names, skip_params};
 use expr::source::Source;
 use expr::token::{Kind, Span, number, read_token, skip_name};
 
-#[derive(Clone, Copy)]
+#[derive(Clone, Copy, Debug, PartialEq, Eq)]
 pub struct Binder {
     // Where the name's bytes lie, eight bytes behind where it begins.
     pub name: Span,
@@ -24,15 +24,11 @@ pub fn let_at<S: Source>(src: &S, at: usize) -> Option<Binder>
     ensures value { binder_told (S.bytes src.now) result ≡ let_at (S.bytes src.now) at }
     ensures lies { BinderLies result (length (S.bytes src.now)) }
 {
-    let Some(token) = read_token(src, at) else {
-        return None;
-    };
+    let token = read_token(src, at)?;
     let Kind::Let(name) = token.kind else {
         return None;
     };
-    let Some(body) = skip(src, token.end) else {
-        return None;
-    };
+    let body = skip(src, token.end)?;
     Some(Binder { name, body })
 }
 
@@ -40,9 +36,7 @@ pub fn let_at<S: Source>(src: &S, at: usize) -> Option<Binder>
 pub fn body_of<S: Source>(src: &S, function: usize) -> Option<usize>
     ensures { result ≡ body_of (S.bytes src.now) function }
 {
-    let Some(params) = skip_name(src, function) else {
-        return None;
-    };
+    let params = skip_name(src, function)?;
     skip_params(src, params)
 }
 
@@ -50,12 +44,8 @@ pub fn body_of<S: Source>(src: &S, function: usize) -> Option<usize>
 fn own_at<S: Source>(src: &S, function: usize, index: u8) -> Option<usize>
     ensures { result ≡ own_at (S.bytes src.now) function index }
 {
-    let Some(params) = skip_name(src, function) else {
-        return None;
-    };
-    let Some(count) = number(src, params) else {
-        return None;
-    };
+    let params = skip_name(src, function)?;
+    let count = number(src, params)?;
     if u64::from(index) >= count {
         return None;
     }
@@ -67,15 +57,9 @@ pub fn own_name<S: Source>(src: &S, function: usize, index: u8) -> Option<Binder
     ensures value { binder_told (S.bytes src.now) result ≡ own_binder (S.bytes src.now) function index }
     ensures lies { BinderLies result (length (S.bytes src.now)) }
 {
-    let Some(at) = own_at(src, function, index) else {
-        return None;
-    };
-    let Some(to) = skip_name(src, at) else {
-        return None;
-    };
-    let Some(body) = body_of(src, function) else {
-        return None;
-    };
+    let at = own_at(src, function, index)?;
+    let to = skip_name(src, at)?;
+    let body = body_of(src, function)?;
     Some(Binder {
         name: Span { from: at + 8, to },
         body,

@@ -15,7 +15,7 @@ pub copy_row-requires : goal.copy_row-requires
 copy_row-requires c =
     record {
       within = (c.in-Some-skip_function.ensures.within.0, c.in-Some-skip_function.ensures.within.1);
-      room = omega (arith, c.in-Some-skip_function.ensures.within, held_short c.args.memory.now c.requires.0 _ c.current-program.ensures, c.requires.1);
+      room = omega (arith, c.in-Some-skip_function.ensures.within, held_short c.args.memory.now _ c.current-program.ensures, c.requires);
     }
 
 pub returns : goal.returns

@@ -18,11 +18,11 @@ pub copy_row-requires : goal.copy_row-requires
 copy_row-requires c =
     record {
       within = (omega (arith, c.in-Some.ensures.within), c.in-Some.ensures.within.1);
-      room = omega (arith, c.in-Some.ensures.within, held_short c.args.memory.now c.requires.0 _ c.current-program.ensures, c.requires.1);
+      room = omega (arith, c.in-Some.ensures.within, held_short c.args.memory.now _ c.current-program.ensures, c.requires);
     }
 
 pub overflow_add-memory : goal.overflow_add-memory
-overflow_add-memory c = omega (arith, c.in-Some-skip_function.ensures.within, held_short c.args.memory.now c.requires.0 _ c.current-program.ensures)
+overflow_add-memory c = omega (arith, c.in-Some-skip_function.ensures.within, held_short c.args.memory.now _ c.current-program.ensures)
 
 pub returns : goal.returns
 returns c =

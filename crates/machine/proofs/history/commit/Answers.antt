@@ -1,10 +1,6 @@
 use Rattle.std.proofs.Common.{set, ap, ◌∙◌}
 use Rattle.machine.specs.History.{moved_up, placed, committed}
-use Rattle.memory.proofs.LayoutFacts.{older-few}
 use Rattle.machine.proofs.history.commit.Goals as goal
-
-pub one_more-requires : goal.one_more-requires
-one_more-requires c = older-few c.args.memory.now c.requires.0
 
 pub returns : goal.returns
 unfolding committed

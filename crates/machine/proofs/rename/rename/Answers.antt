@@ -1,68 +1,47 @@
--- Listed, written, accepted; or nothing is left of it.
-use Rattle.std.proofs.Common.{ltb, length, get_or, Some, None, refl, ap, ◌∙◌, arith, lt-ltb}
-use Rattle.expr.specs.Token.{spelled_in}
-use Rattle.language.specs.Splice.{names_replaced}
-use Rattle.language.proofs.ListFacts.{every_from}
-use Rattle.memory.specs.Layout.{held, listed}
-use Rattle.memory.proofs.LayoutFacts.{memory-long, front_fits}
-use Rattle.machine.specs.History.{accepted}
-use Rattle.machine.proofs.RenameSteps.{wiped-same, kept-front, kept-held, kept-replaced, renamed_low, beside_behind, accepted-changed, written-fits, renamed_captured, renamed_large, renamed-done}
+-- Written and accepted; or nothing is left of it.
+use Rattle.std.proofs.Common.{◌-◌, refl, ◌∙◌, arith}
+use Rattle.memory.specs.Layout.{held}
+use Rattle.scope.specs.Binding.{binder_of}
+use Rattle.machine.proofs.RenameSteps.{chunk, reserve_is, front-same, written-same, written-low, area-accepted, area-wiped, renamed-err, renamed-ok}
 use Rattle.machine.proofs.rename.rename.Goals as goal
 
-pub wipe-requires : goal.wipe-requires
-wipe-requires c = omega (arith, memory-long c.args.memory.now c.requires.memory)
-
-pub returns-in_default : goal.returns-in_default
-returns-in_default c =
-    let k = c.list_uses.ensures.kept in
-    renamed_captured c.args.memory.now c.args.to.now _ c.args.out.now c.refused.result c.wipe.new.memory c.in_default.ensures.value
-    (c.wipe.ensures ∙ wiped-same c.args.memory.now c.list_uses.new.memory (kept-front c.args.memory.now c.list_uses.new.memory k) k.behind) c.refused.ensures
-
-pub write_renamed-requires : goal.write_renamed-requires
-write_renamed-requires c =
-    let k = c.list_uses.ensures.kept in
-    record {
-      memory = front_fits c.args.memory.now c.list_uses.new.memory (kept-front c.args.memory.now c.list_uses.new.memory k) k.long c.requires.memory;
-      from = (c.requires.lies.1.0, omega (arith, c.requires.lies.1.1, ap length (kept-held c.args.memory.now c.list_uses.new.memory k)));
-      bytes = every_from (λ b. ltb b 256) 0 c.args.to.now (λ i l. lt-ltb (get_or c.args.to.now i 0) 256 (omega (arith, c.type_inv.to i)));
-      count = c.in-Some.ensures.few;
-    }
-
-pub wipe-requires-in_default-write_renamed : goal.wipe-requires-in_default-write_renamed
-wipe-requires-in_default-write_renamed c = omega (arith, memory-long c.args.memory.now c.requires.memory)
-
-pub returns-in_default-write_renamed : goal.returns-in_default-write_renamed
-returns-in_default-write_renamed c =
-    let k = c.list_uses.ensures.kept in
-    let w = kept-replaced c.args.memory.now c.list_uses.new.memory k c.args.binder.name c.args.to.now (listed c.list_uses.new.memory c.in-Some.count) None c.write_renamed.new.memory
-    c.in_default-write_renamed.ensures.value in
-    renamed_large c.args.memory.now c.args.to.now _ c.args.out.now c.refused-in_default-write_renamed.result c.wipe-in_default-write_renamed.new.memory
-    (listed c.list_uses.new.memory c.in-Some.count) c.in-Some.ensures.value w.1
-    (c.wipe-in_default-write_renamed.ensures
-    ∙ wiped-same c.list_uses.new.memory c.write_renamed.new.memory w.0.front (beside_behind c.list_uses.new.memory c.write_renamed.new.memory w.0)
-    ∙ wiped-same c.args.memory.now c.list_uses.new.memory (kept-front c.args.memory.now c.list_uses.new.memory k) k.behind)
-    c.refused-in_default-write_renamed.ensures
+pub unwrap-requires-3 : goal.unwrap-requires-3
+unwrap-requires-3 c =
+    let one = chunk _ _ 8192 _ c.split_first_chunk_mut.ensures.cases c.unwrap.ensures in
+    let two = chunk _ _ 40960 _ c.split_first_chunk_mut-2.ensures.cases c.unwrap-2.ensures in
+    c.split_first_chunk_mut-3.ensures.variant.1 (omega (arith, one.long, two.long, c.split_at_mut-front.ensures.back_len))
 
 pub accept-requires : goal.accept-requires
 accept-requires c =
-    let k = c.list_uses.ensures.kept in
-    let us = listed c.list_uses.new.memory c.in-Some.count in
-    let w = kept-replaced c.args.memory.now c.list_uses.new.memory k c.args.binder.name c.args.to.now us (Some c.in-Some-write_renamed.len) c.write_renamed.new.memory
-    c.in-Some-write_renamed.ensures.value in (
-      written-fits c.args.memory.now c.list_uses.new.memory c.write_renamed.new.memory
-          (names_replaced (held 0 c.args.memory.now) (spelled_in (held 0 c.args.memory.now) c.args.binder.name) c.args.to.now us) c.requires.memory k
-          (omega (arith, c.in-Some-write_renamed.ensures.short, w.0)) w.1,
-      omega (arith, w.0, renamed_low c.args.memory.now (spelled_in (held 0 c.args.memory.now) c.args.binder.name) c.args.to.now us c.requires.memory),
-    )
+    let m = c.args.memory.now in
+    let same = front-same m _ _ c.split_at_mut-front.ensures.front c.current.ensures in
+    written-low m _ _ _ _ _ (omega arith) (written-same m _ same c.args.binder.name c.args.to.now (c.args.binder.name.from - 8) c.args.binder.body _ _ c.in-Ok.ensures.written)
 
-pub returns : goal.returns
-returns c =
-    let k = c.list_uses.ensures.kept in
-    let us = listed c.list_uses.new.memory c.in-Some.count in
-    let new = names_replaced (held 0 c.args.memory.now) (spelled_in (held 0 c.args.memory.now) c.args.binder.name) c.args.to.now us in
-    let w = kept-replaced c.args.memory.now c.list_uses.new.memory k c.args.binder.name c.args.to.now us (Some c.in-Some-write_renamed.len) c.write_renamed.new.memory
-    c.in-Some-write_renamed.ensures.value in
-    renamed-done c.args.memory.now c.args.to.now _ c.args.out.now _ c.accept.new.memory us c.in-Some.ensures.value (omega (arith, c.in-Some-write_renamed.ensures.short, w.0))
-    (c.accept.ensures ∙ ap (accepted c.write_renamed.new.memory) w.0
-    ∙ accepted-changed c.args.memory.now c.list_uses.new.memory c.write_renamed.new.memory new c.requires.memory k (omega (arith, c.in-Some-write_renamed.ensures.short, w.0)) w.1)
+pub returns-in-Ok : goal.returns-in-Ok
+returns-in-Ok c =
+    let m = c.args.memory.now in
+    let one = chunk _ _ 8192 _ c.split_first_chunk_mut.ensures.cases c.unwrap.ensures in
+    let two = chunk _ _ 40960 _ c.split_first_chunk_mut-2.ensures.cases c.unwrap-2.ensures in
+    let three = chunk _ _ 8192 _ c.split_first_chunk_mut-3.ensures.cases c.unwrap-3.ensures in
+    let same = front-same m _ _ c.split_at_mut-front.ensures.front c.current.ensures in
+    let long = c.write_new.ensures.long in
+    renamed-ok m c.args.to.now (binder_of (held 0 m) c.args.binder) c.args.out.now _ _ c.write_new.new.area _
+    (written-same m _ same c.args.binder.name c.args.to.now (c.args.binder.name.from - 8) c.args.binder.body _ _ c.in-Ok.ensures.written)
+    (λ bs count filled.
+    c.accept.ensures
+    ∙ area-accepted m _ _ _ _ _ _ refl (omega arith) c.split_at_mut-front.ensures.front (reserve_is m _ _ _ _ c.split_at_mut-front.ensures.back one.back two.back three.back) long.0 long.1 long.2 bs _ count filled)
     refl
+
+pub returns-in-Err : goal.returns-in-Err
+returns-in-Err c =
+    let m = c.args.memory.now in
+    let one = chunk _ _ 8192 _ c.split_first_chunk_mut.ensures.cases c.unwrap.ensures in
+    let two = chunk _ _ 40960 _ c.split_first_chunk_mut-2.ensures.cases c.unwrap-2.ensures in
+    let three = chunk _ _ 8192 _ c.split_first_chunk_mut-3.ensures.cases c.unwrap-3.ensures in
+    let same = front-same m _ _ c.split_at_mut-front.ensures.front c.current.ensures in
+    let long = c.write_new.ensures.long in
+    renamed-err m c.args.to.now (binder_of (held 0 m) c.args.binder) c.args.out.now _ _ c.write_new.new.area _
+    (written-same m _ same c.args.binder.name c.args.to.now (c.args.binder.name.from - 8) c.args.binder.body _ _ c.in-Err.ensures.written)
+    (c.wipe.ensures
+    ∙ area-wiped m _ _ _ _ _ _ refl (omega arith) c.split_at_mut-front.ensures.front (reserve_is m _ _ _ _ c.split_at_mut-front.ensures.back one.back two.back three.back) long.0 long.1 long.2)
+    c.refused.ensures

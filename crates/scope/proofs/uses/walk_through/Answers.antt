@@ -1,43 +1,21 @@
 -- One node after the other.
-use Rattle.std.proofs.Common.{length, sym, ap, arith}
-use Rattle.scope.proofs.VisitFacts.{walked_none, walked_kept, walked_to, walked_more, walked_out, kept-held, kept-fits}
+use Rattle.std.proofs.Common.{Some, sym, refl, ap, ◌∙◌, arith}
+use Rattle.scope.specs.Walks.{count_told}
+use Rattle.scope.proofs.VisitFacts.{walked_to, walked_out}
 use Rattle.scope.proofs.uses.walk_through.Goals as goal
 
-pub loop-turn-init : goal.loop-turn-init
-loop-turn-init c = walked_none _ _ _ _ c.requires.walk.0 c.requires.walk.1
+pub returns-in_err-next-clause-value : goal.returns-in_err-next-clause-value
+returns-in_err-next-clause-value g c =
+    ap (count_told c.visit_next.new.list) c.from_residual.ensures
+    ∙ sym (walked_to _ _ _ _ _ c.args.first c.loop-turn.turn _ _ c.loop-turn.walk c.loop-turn.invariant (omega (arith, c.len-turn-end.ensures)) _ _ _ _ c.in_err-next.ensures refl)
 
-pub visit_next-requires : goal.visit_next-requires
-visit_next-requires c =
-    record {
-      memory = kept-fits _ _ c.loop-turn.invariant.kept c.requires.memory;
-      from = (c.requires.from.0, omega (arith, c.requires.from.1, ap length (kept-held _ _ c.loop-turn.invariant.kept)));
-      walk = (c.loop-turn.invariant.few-frames, c.loop-turn.invariant.few-uses);
-    }
-
-pub returns-in-Done : goal.returns-in-Done
-returns-in-Done c =
-    record {
-      value = sym (walked_to _ _ _ _ _ _ _ c.loop-turn.invariant (omega (arith, c.len-len.ensures, ap length c.current.ensures)) _ _ c.in-Done.ensures);
-      few = c.in-Done.ensures.few;
-      kept = walked_kept _ _ _ _ _ _ _ c.loop-turn.invariant (omega (arith, c.len-len.ensures, ap length c.current.ensures)) _ _ c.in-Done.ensures;
-    }
-
-pub returns-in-Stopped : goal.returns-in-Stopped
-returns-in-Stopped c =
-    record {
-      value = sym (walked_to _ _ _ _ _ _ _ c.loop-turn.invariant (omega (arith, c.len-len.ensures, ap length c.current.ensures)) _ _ c.in-Stopped.ensures);
-      few = tt;
-      kept = walked_kept _ _ _ _ _ _ _ c.loop-turn.invariant (omega (arith, c.len-len.ensures, ap length c.current.ensures)) _ _ c.in-Stopped.ensures;
-    }
+pub returns-in-Break-clause-value : goal.returns-in-Break-clause-value
+returns-in-Break-clause-value g c =
+    sym (walked_to _ _ _ _ _ c.args.first c.loop-turn.turn _ _ c.loop-turn.walk c.loop-turn.invariant (omega (arith, c.len-turn-end.ensures)) _ _ _ _ c.in_ok-next.ensures (ap Some c.in-Break.is))
 
 pub loop-turn-preserved : goal.loop-turn-preserved
-loop-turn-preserved c =
-    walked_more _ _ _ _ _ _ _ c.loop-turn.invariant (omega (arith, c.len-len.ensures, ap length c.current.ensures)) _ _ c.in-On.ensures
+loop-turn-preserved g c =
+    walked_to _ _ _ _ _ c.args.first c.loop-turn.turn _ _ c.loop-turn.walk c.loop-turn.invariant (omega (arith, c.len-turn-end.ensures)) _ _ _ _ c.in_ok-next.ensures (ap Some c.in-Continue.is)
 
-pub returns : goal.returns
-returns c =
-    record {
-      value = walked_out _ _ _ _ _ _ _ c.loop-turn.invariant (omega (arith, c.len-len.ensures, ap length c.current.ensures));
-      few = tt;
-      kept = c.loop-turn.invariant.kept;
-    }
+pub returns-clause-value : goal.returns-clause-value
+returns-clause-value g c = walked_out _ _ _ _ _ c.args.first c.loop-turn.turn _ _ c.loop-turn.walk c.loop-turn.invariant (omega (arith, c.len-turn-end.ensures))

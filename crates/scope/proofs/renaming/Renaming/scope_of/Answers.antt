@@ -1,6 +1,6 @@
 use Rattle.std.proofs.Common.{refl, ◌∙◌, arith}
 use Rattle.scope.proofs.ScopeFacts.{scope-first, scope_other, scope-second, not_let, is_let}
-use Rattle.scope.proofs.renaming.scope_of.Goals as goal
+use Rattle.scope.proofs.renaming.Renaming.scope_of.Goals as goal
 
 pub returns-in_default : goal.returns-in_default
 returns-in_default g c = scope-first _ _ _ _ _ c.in_default.is

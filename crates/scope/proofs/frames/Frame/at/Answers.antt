@@ -1,6 +1,6 @@
 use Rattle.std.proofs.Common.{refl}
 use Rattle.scope.specs.Frames.{frame_at}
-use Rattle.scope.proofs.frames.frame_at.Goals as goal
+use Rattle.scope.proofs.frames.Frame.at.Goals as goal
 
 pub returns : goal.returns
 unfolding frame_at

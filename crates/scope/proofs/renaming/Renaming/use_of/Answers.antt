@@ -1,7 +1,7 @@
 use Rattle.std.proofs.Common.{true, false, not, ◌&&◌, Some, None, ◌∙◌, ap₂}
 use Rattle.language.specs.Basics.{pick}
 use Rattle.language.specs.Uses.{use_changes}
-use Rattle.scope.proofs.renaming.use_of.Goals as goal
+use Rattle.scope.proofs.renaming.Renaming.use_of.Goals as goal
 
 pub returns : goal.returns
 unfolding use_changes

@@ -1,0 +1,45 @@
+-- One byte after the other.
+use Rattle.std.proofs.Common.{◌≡◌, ltb, ◌+◌, ◌-◌, get_or, sym, ap, ◌∙◌, subst, arith}
+use Rattle.std.specs.List.{between}
+use Rattle.language.proofs.ListFacts.{every_from}
+use Rattle.std.proofs.lemmas.List.Edits.{length-between, get_or-between}
+use Rattle.memory.specs.Build.{writing, Pushed}
+use Rattle.memory.proofs.BuildFacts.{Going, going_from, going_more, going_all}
+use Rattle.memory.proofs.build.append.Goals as goal
+
+pub loop-i-init : goal.loop-i-init
+loop-i-init g c =
+    let inside = c.within-inside.result in
+    let start = writing c.args.area.now c.args.build in
+    let bs = between inside.from inside.to (g.S.Source.bytes c.args.src.now) in
+    subst (λ k. Going start bs k start) (let z : 0 ≡ inside.from - inside.from = omega arith in z) (going_from start bs (omega arith))
+
+pub push-end-requires : goal.push-end-requires
+push-end-requires g c = omega (arith, c.loop-i.invariant.so_far.count, c.saturating_add.ensures, c.len-2.ensures)
+
+pub loop-i-preserved : goal.loop-i-preserved
+loop-i-preserved g c =
+    let bs = g.S.Source.bytes c.args.src.now in
+    let inside = c.within-inside.result in
+    let start = writing c.args.area.now c.args.build in
+    let end = writing c.push-end.new.area c.push-end.result in
+    let long = length-between bs inside.from inside.to (omega (arith, c.within-inside.ensures.inside, c.len.ensures)) in
+    let here : inside.from + (c.loop-i.i - inside.from) ≡ c.loop-i.i = omega (arith, c.loop-i.auto.i) in
+    subst (λ k. Going start (between inside.from inside.to bs) k end) (let z : c.loop-i.i - inside.from + 1 ≡ c.loop-i.i + 1 - inside.from = omega (arith, c.loop-i.auto.i) in z)
+    (going_more start (writing c.loop-i.area c.loop-i.end) end (between inside.from inside.to bs) (c.loop-i.i - inside.from) c.at.result c.loop-i.invariant
+    (omega (arith, long, c.loop-i.auto.i)) c.push-end.ensures
+    (c.at.ensures ∙ sym (get_or-between bs inside.from inside.to (c.loop-i.i - inside.from) 0 (omega (arith, c.loop-i.auto.i)) ∙ ap (λ k. get_or bs k 0) here)) c.at.type_inv)
+
+pub returns : goal.returns
+returns g c =
+    let bs = g.S.Source.bytes c.args.src.now in
+    let inside = c.within-inside.result in
+    let start = writing c.args.area.now c.args.build in
+    let long = length-between bs inside.from inside.to (omega (arith, c.within-inside.ensures.inside, c.len.ensures)) in
+    let same = c.within-inside.ensures.same bs (sym c.len.ensures) in
+    subst (λ vs. Pushed c.args.area.now c.args.build vs c.loop-i.end c.loop-i.area) same
+    (record {
+      so = going_all start (writing c.loop-i.area c.loop-i.end) (between inside.from inside.to bs) (c.loop-i.i - inside.from) c.loop-i.invariant (omega (arith, long));
+      room = omega (arith, long, c.saturating_add.ensures, c.len-2.ensures);
+      bytes = every_from (λ b. ltb b 256) 0 (between inside.from inside.to bs) (λ k l. c.loop-i.invariant.bytes k (omega (arith, long)));
+    })
