@@ -1,15 +1,17 @@
 // What gives a name: a let, or a function's own names.
-ghost use Rattle.std.specs.Prelude.{◌≡◌, length};
+ghost use Rattle.std.specs.Prelude.{◌≡◌, length, IfSome};
 ghost use Rattle.language.specs.Binders.{let_at, own_at, own_binder};
 ghost use Rattle.language.specs.Contents.{own_names, body_of};
 ghost use Rattle.language.specs.Names.{has};
 ghost use Rattle.model.specs.Capture.{others};
 ghost use Rattle.scope.specs.Binding.{binder_told, BinderLies};
+ghost use Rattle.wire.specs.Walk.{names_told};
 
 use expr::compare::is_name;
 use expr::skip::{skip, skip_names, skip_params};
 use expr::source::Source;
 use expr::token::{Kind, Span, number, read_token, skip_name};
+use wire::names::Names;
 
 #[derive(Clone, Copy, Debug, PartialEq, Eq)]
 pub struct Binder {
@@ -66,25 +68,23 @@ pub fn own_name<S: Source>(src: &S, function: usize, index: u8) -> Option<Binder
     })
 }
 
+// The own names of the function there, in their order.
+fn own_names<S: Source>(src: &S, function: usize) -> Option<Names<'_, S>>
+    ensures value { names_told S.bytes result ≡ own_names (S.bytes src.now) function }
+    ensures row { IfSome result (λ names. names.src.now ≡ src.now) }
+{
+    let params = skip_name(src, function)?;
+    Names::counted(src, params)
+}
+
 // Another own name of the function than that of the number is `name`.
 pub fn other_own_is<S: Source>(src: &S, function: usize, index: u8, name: &[u8]) -> bool
     ensures { result ≡ has (others (own_names (S.bytes src.now) function) index) name.now }
 {
-    let Some(params) = skip_name(src, function) else {
+    let Some(names) = own_names(src, function) else {
         return false;
     };
-    let Some(count) = number(src, params) else {
-        return false;
-    };
-    let mut here = params + 8;
-    for k in 0..count {
-        let Some(next) = skip_name(src, here) else {
-            return false;
-        };
-        if k != u64::from(index) && is_name(src, here, name) {
-            return true;
-        }
-        here = next;
-    }
-    false
+    names
+        .enumerate()
+        .any(|(number, at)| number != usize::from(index) && is_name(src, at, name))
 }

@@ -169,7 +169,7 @@ fn walk_through<S: Source>(
     ensures few { IfSome result (λ n. n ≤ 8192) }
 {
     let mut walk = first;
-    for turn in 0..renaming.program.len() {
+    for _ in 0..renaming.program.len() {
         match visit_next(renaming, walk, frames, list)? {
             ControlFlow::Continue(next) => walk = next,
             ControlFlow::Break(count) => return Some(count),

@@ -1,5 +1,5 @@
 -- One name, or one function, after the other: where each begins. Assumes nothing.
-use Rattle.std.proofs.Common.{◌≡◌, ℕ, zero, suc, Bool, true, false, cond, not, ◌&&◌, ◌||◌, List, [], ◌∷◌, length, Some, None, Option, refl, sym, ap, ap₂, ◌∙◌, ◌+◌, arith}
+use Rattle.std.proofs.Common.{◌≡◌, ℕ, zero, suc, Bool, true, false, cond, not, ◌&&◌, ◌||◌, List, [], ◌∷◌, length, Some, None, Option, refl, sym, ap, ap₂, ◌∙◌, ◌+◌, ◌≤◌, arith}
 use Rattle.std.specs.Iterator.{MakesProgress, item_count}
 use Rattle.std.specs.List.{between, list_any, list_all, find}
 use Rattle.std.specs.Option.{option_map}
@@ -35,6 +35,15 @@ unfolding name_places
 places_cut bs i e zero = refl
 places_cut bs i e (suc n) = sym (ap (λ o. listed o (λ j. i ∷ name_places n bs j)) e)
 
+pub places_short : (bs : List ℕ) (n i : ℕ) → length (name_places n bs i) ≤ n
+unfolding name_places
+places_short bs zero i = omega arith
+places_short bs (suc n) i = by (name_end bs i) (places_short bs n)
+  where
+    by : (o : Option ℕ) → ((j : ℕ) → length (name_places n bs j) ≤ n) → length (listed o (λ j. i ∷ name_places n bs j)) ≤ suc n
+    by None short = omega arith
+    by (Some j) short = omega (arith, short j)
+
 -- the names are those at their places
 pub names_placed : (bs : List ℕ) (n i : ℕ) → names_from n bs i ≡ each (name_there bs) (name_places n bs i)
 unfolding names_from name_places
@@ -45,7 +54,7 @@ names_placed bs (suc n) i = by (name_end bs i) refl (names_placed bs n)
     by None e placed = refl
     by (Some j) e placed = ap₂ (λ x xs. x ∷ xs) (sym (ap (λ o. listed o (λ k. between (i + 8) k bs)) e)) (placed j)
 
-or_is : (a b : Bool) → (a || b) ≡ or a b
+pub or_is : (a b : Bool) → (a || b) ≡ or a b
 or_is true b = refl
 or_is false b = refl
 

@@ -1,38 +1,36 @@
--- One name after the other.
-use Rattle.std.proofs.Common.{◌+◌, ◌-◌, sym, ◌∙◌, arith}
-use Rattle.scope.proofs.OwnFacts.{all-unseen, own_nameless, own_countless, unseen_over, unseen-cut, unseen_itself, unseen_is, unseen-next}
+-- The own names are gone through with their numbers.
+use Rattle.std.proofs.Common.{rules, ap, sym, ◌∙◌, inl, arith}
+use Rattle.std.proofs.lemmas.Iterator.Consumers.{YieldsList-from_enumerate}
+use Rattle.std.proofs.lemmas.Iterator.Search.{any_from_yields_List}
+use borrow.Author.Tests.{tests}
+use Rattle.language.specs.Basics.{each}
+use Rattle.language.specs.Names.{has}
+use Rattle.language.specs.Contents.{name_there, names_from}
+use Rattle.model.specs.Capture.{others}
+use Rattle.wire.specs.Walk.{name_places}
+use Rattle.wire.proofs.WalkFacts.{yields_left, names_placed, places_short}
+use Rattle.scope.proofs.OwnFacts.{Seen, all-unseen, none_other, seen_others}
 use Rattle.scope.proofs.binder.other_own_is.Goals as goal
-use Rattle.scope.proofs.binder.other_own_is.Goals.{else-k-from-via-then-k-from+else-is_name, else-k-from-via-else-k-from}
 
 pub returns-in_default : goal.returns-in_default
-returns-in_default g c = own_nameless (g.S.Source.bytes c.args.src.now) c.args.index c.args.name.now _ c.in_default.ensures.value
+returns-in_default g c = none_other _ c.args.index c.args.name.now c.in_default.ensures.value
 
-pub returns-in_default-number : goal.returns-in_default-number
-returns-in_default-number g c = own_countless (g.S.Source.bytes c.args.src.now) c.args.index c.args.name.now _ _ c.in-Some.ensures.value c.in_default-number.ensures.value
-
-pub loop-k-init : goal.loop-k-init
-loop-k-init g c = all-unseen _ _ _ _ _ _ c.in-Some.ensures.value c.in-Some-number.ensures.value
-
-pub returns-in_default-skip_name : goal.returns-in_default-skip_name
-returns-in_default-skip_name g c = sym (c.loop-k.invariant ∙ unseen-cut _ _ _ _ _ _ c.in_default-skip_name.ensures.value)
-
-pub returns-then-is_name : goal.returns-then-is_name
-returns-then-is_name g c =
-    sym (c.loop-k.invariant
-    ∙ unseen_is (g.S.Source.bytes c.args.src.now) c.args.index c.args.name.now (c.in-Some-number.count - c.loop-k.k) c.loop-k.k c.loop-k.here c.in-Some-skip_name.next (c.in-Some-number.count - (c.loop-k.k + 1))
-    c.in-Some-skip_name.ensures.value (omega arith) (λ e. c.if-k-from.true (e ∙ sym c.from.ensures)) c.if-is_name.ensures)
-
-pub loop-k-preserved : goal.loop-k-preserved
-loop-k-preserved g c =
-    c.loop-k.invariant
-    ∙ elim c.else-k-from.branch [
-      | else-k-from-via-then-k-from+else-is_name w ↦
-          unseen-next (g.S.Source.bytes c.args.src.now) c.args.index c.args.name.now (c.in-Some-number.count - c.loop-k.k) c.loop-k.k c.loop-k.here c.in-Some-skip_name.next (c.in-Some-number.count - (c.loop-k.k + 1))
-          c.in-Some-skip_name.ensures.value (omega arith) (λ e. w.if-k-from.true (e ∙ sym c.from.ensures)) w.if-is_name.ensures
-      | else-k-from-via-else-k-from w ↦
-          unseen_itself (g.S.Source.bytes c.args.src.now) c.args.index c.args.name.now (c.in-Some-number.count - c.loop-k.k) c.loop-k.k c.loop-k.here c.in-Some-skip_name.next (c.in-Some-number.count - (c.loop-k.k + 1))
-          c.in-Some-skip_name.ensures.value (omega arith) (omega (arith, c.from.ensures))
-    ]
+pub any-requires-clause-can : goal.any-requires-clause-can
+any-requires-clause-can g c =
+    (tt, tt, inl (omega (arith, places_short (g.S.Source.bytes c.enumerate.result.iter.src.now) c.enumerate.result.iter.count c.enumerate.result.iter.at)))
 
 pub returns : goal.returns
-returns g c = sym (c.loop-k.invariant ∙ unseen_over _ _ _ _ _ _ (omega arith))
+returns g c =
+    let bs = g.S.Source.bytes c.args.src.now in
+    let named = c.in-Some.names in
+    any_from_yields_List (Seen (name_there bs) c.args.index c.args.name.now) _ _ c.any.result c.any.ensures.ran
+    (YieldsList-from_enumerate (yields_left (λ s. name_places s.count (g.S.Source.bytes s.src.now) s.at) (λ s. s.src) c.enumerate.result.iter) (cc))
+    (λ k b q h. search (rules, tests))
+    ∙ seen_others (name_there bs) c.args.index c.args.name.now 0 _
+    ∙ ap (λ xs. has xs c.args.name.now) (all-unseen c.args.index _)
+    ∙ ap (λ xs. has (others xs c.args.index) c.args.name.now)
+    (ap (λ s. each (name_there bs) (name_places s.count (g.S.Source.bytes s.src.now) s.at)) c.enumerate.ensures.source
+    ∙ ap (λ r. each (name_there bs) (name_places named.count (g.S.Source.bytes r) named.at)) c.in-Some.ensures.row
+    ∙ sym (names_placed bs named.count named.at)
+    ∙ ap (λ r. names_from named.count (g.S.Source.bytes r) named.at) (sym c.in-Some.ensures.row)
+    ∙ c.in-Some.ensures.value)
