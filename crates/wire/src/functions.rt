@@ -26,7 +26,7 @@ pub struct Functions<'a, S> {
 
 impl<'a, S: Source> Functions<'a, S> {
     pub fn new(src: &'a S, count: u64, first: usize) -> Functions<'a, S>
-        ensures { functions_left result.count (S.bytes result.src.now) result.first result.before ≡ functions_from count (S.bytes src.now) first }
+        ensures { functions_left S.bytes result ≡ functions_from count (S.bytes src.now) first }
     {
         Functions {
             src,
@@ -50,9 +50,9 @@ impl<'a, S: Source> Functions<'a, S> {
 impl<S: Source> Iterator for Functions<'_, S> {
     type Item = Function;
 
-    ghost next_gives = { YieldsFirstOf (λ s. functions_left s.count (S.bytes s.src.now) s.first s.before) (λ s. s.src) };
+    ghost next_gives = { YieldsFirstOf (functions_left S.bytes) (λ s. s.src) };
 
-    ghost remaining = { item_count (λ s. functions_left s.count (S.bytes s.src.now) s.first s.before) };
+    ghost remaining = { item_count (functions_left S.bytes) };
 
     fn next(&mut self) -> Option<Function> {
         self.count = self.count.checked_sub(1)?;

@@ -1,9 +1,9 @@
 // Names in a row of bytes, one after the other.
 ghost use Rattle.std.specs.Prelude.{◌≡◌, IfSome};
 ghost use Rattle.std.specs.Iterator.{item_count};
-ghost use Rattle.language.specs.Contents.{name_there, names_from};
+ghost use Rattle.language.specs.Contents.{name_there};
 ghost use Rattle.language.specs.Names.{has, distinct};
-ghost use Rattle.wire.specs.Walk.{YieldsFirstOf, name_places, names_counted, names_told};
+ghost use Rattle.wire.specs.Walk.{YieldsFirstOf, names_counted, names_left, names_told, places_left};
 
 use expr::compare::same_names;
 use expr::source::Source;
@@ -20,9 +20,9 @@ pub struct Names<'a, S> {
 impl<S: Source> Iterator for Names<'_, S> {
     type Item = usize;
 
-    ghost next_gives = { YieldsFirstOf (λ s. name_places s.count (S.bytes s.src.now) s.at) (λ s. s.src) };
+    ghost next_gives = { YieldsFirstOf (places_left S.bytes) (λ s. s.src) };
 
-    ghost remaining = { item_count (λ s. name_places s.count (S.bytes s.src.now) s.at) };
+    ghost remaining = { item_count (places_left S.bytes) };
 
     fn next(&mut self) -> Option<usize> {
         let at = self.at;
@@ -48,7 +48,7 @@ impl<'a, S: Source> Names<'a, S> {
 
     // The name at `at` is one of them.
     pub fn has(&self, at: usize) -> bool
-        ensures { result ≡ has (names_from self.now.count (S.bytes self.now.src.now) self.now.at) (name_there (S.bytes self.now.src.now) at) }
+        ensures { result ≡ has (names_left S.bytes self.now) (name_there (S.bytes self.now.src.now) at) }
     {
         let src = self.src;
         let mut names = *self;
@@ -57,7 +57,7 @@ impl<'a, S: Source> Names<'a, S> {
 
     // No two of them are the same.
     pub fn differ(&self) -> bool
-        ensures { result ≡ distinct (names_from self.now.count (S.bytes self.now.src.now) self.now.at) }
+        ensures { result ≡ distinct (names_left S.bytes self.now) }
     {
         let mut later = *self;
         while let Some(name) = later.next() {

@@ -18,7 +18,7 @@ returns g c =
     let x = c.args.name.now in
     let first =
     find_from_yields_List (λ f. same (name_there bs f.at) x) _ _ c.find.result c.find.ensures.ran
-    (yields_left (λ s. functions_left s.count (g.S.Source.bytes s.src.now) s.first s.before) (λ s. s.src) c.new.result)
+    (yields_left (functions_left g.S.Source.bytes) (λ s. s.src) c.new.result)
     (λ k b q h. search (rules, tests)) in
     let place : c.map.result ≡ option_map (λ f. f.at) c.find.result = search rules in
     place ∙ ap (option_map (λ f. f.at)) (sym (option_map_id c.find.result) ∙ first ∙ ap (find (λ f. same (name_there bs f.at) x)) c.new.ensures)

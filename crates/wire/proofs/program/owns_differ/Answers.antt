@@ -12,6 +12,6 @@ returns g c =
     let bs = g.S.Source.bytes c.args.src.now in
     let all =
     all_from_yields_List (λ f. distinct (names_counted bs f.params)) _ _ c.all.result c.all.ensures.ran
-    (yields_left (λ s. functions_left s.count (g.S.Source.bytes s.src.now) s.first s.before) (λ s. s.src) c.new.result)
+    (yields_left (functions_left g.S.Source.bytes) (λ s. s.src) c.new.result)
     (λ k b q h. search (rules, tests)) in
     all ∙ ap (list_all (λ f. distinct (names_counted bs f.params))) c.new.ensures ∙ owns_listed bs c.args.count 8

@@ -19,4 +19,4 @@ returns g c =
     let first =
     left_more (g.S.Source.bytes c.args.self.now.src.now) _ c.args.self.now.count c.in_ok-self.field-0 c.in_ok-at.at c.in_ok-params.params
     (omega (arith, c.in_ok-self.ensures)) c.in_ok-at.ensures c.in_ok-params.ensures.value in
-    record { steps = (first, refl); goes = one_less (λ s. functions_left s.count (g.S.Source.bytes s.src.now) s.first s.before) tt first }
+    record { steps = (first, refl); goes = one_less (functions_left g.S.Source.bytes) tt first }

@@ -1,6 +1,6 @@
 -- Where a name stands, it is the first of those that are left; where none stands, or none are left to come, none is.
 use Rattle.std.proofs.Common.{arith, refl}
-use Rattle.wire.specs.Walk.{name_places}
+use Rattle.wire.specs.Walk.{places_left}
 use Rattle.wire.proofs.WalkFacts.{places_none, places_cut, places_more, one_less}
 use Rattle.wire.proofs.names.NamesIterator.next.Goals as goal
 
@@ -19,4 +19,4 @@ returns g c =
     let first =
     places_more (g.S.Source.bytes c.args.self.now.src.now) c.args.self.now.at c.args.self.now.count c.in_ok-self.field-0 c.in_ok-self-2.field-0
     (omega (arith, c.in_ok-self.ensures)) c.in_ok-self-2.ensures.value in
-    record { steps = (first, refl); goes = one_less (λ s. name_places s.count (g.S.Source.bytes s.src.now) s.at) tt first }
+    record { steps = (first, refl); goes = one_less (places_left g.S.Source.bytes) tt first }
