@@ -33,7 +33,7 @@ pub read_back : ReadBack
 read_back = record { lower_case = lower_case; upper_case = upper_case }
 
 -- what two bytes and the text after them are read as
-abbrev paired : Option ℕ → Option ℕ → Option (List ℕ) → Option (List ℕ)
+abbrev pub paired : Option ℕ → Option ℕ → Option (List ℕ) → Option (List ℕ)
 paired x y z = with_some x (λ high. with_some y (λ low. with_some z (λ rest. Some ((high * 16 + low) ∷ rest))))
 
 -- how many digits stand at the front of two bytes and n more
@@ -73,5 +73,5 @@ even [] _ = refl
 even (c ∷ []) h = absurd (clash h)
 even (c ∷ d ∷ text) h = omega (arith, even text (paired-parts (digit_value c) (digit_value d) (bytes_of text) (digits_in text) h).1)
 
-pub even-digits : EvenDigits
-even-digits = record { stands = stands; all_digits = all_digits; even = even }
+pub even_digits : EvenDigits
+even_digits = record { stands = stands; all_digits = all_digits; even = even }

@@ -1,4 +1,3 @@
 mod Writing
-mod Reading
 mod Laws
-mod Edges
+mod Reading

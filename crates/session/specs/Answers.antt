@@ -7,6 +7,10 @@ use Rattle.session.specs.Hex.{hex_of}
 abbrev pub with_row : List ℕ → List ℕ → List ℕ
 with_row printed row = printed ++ codes "shows " ++ hex_of row ++ codes "\n"
 
+abbrev pub ending_text : Ending → List ℕ
+ending_text Done = codes "done"
+ending_text (Refused reason) = codes "refused " ++ decimal reason
+
 abbrev pub refused_line : ℕ → List ℕ
 refused_line reason = codes "refused " ++ (decimal reason ++ codes "\n")
 
