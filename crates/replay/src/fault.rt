@@ -45,7 +45,7 @@ impl Stop {
         }
     }
 
-    // The message for a session of that name.
+    // The message for a session of that name, which no variant has: so it is no derive's.
     fn describe<W: fmt::Write>(&self, f: &mut fmt::Formatter<W>, name: &str) -> fmt::Result {
         match self {
             Stop::Unreadable(error) => write!(f, "{name}: {error}"),

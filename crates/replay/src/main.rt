@@ -15,9 +15,18 @@ use std::process::ExitCode;
 
 fn play_lines<R: Read + Drop>(player: &mut Player, source: R) -> Result<(), Stop> {
     player.start();
-    let heap = player.heap();
-    for line in BufReader::new(heap, source)?.split(heap, b'\n') {
-        let line = line.map_err(Stop::Unreadable)?;
+    let mut input = BufReader::new(player.heap(), source)?;
+    let mut line = Vec::new(player.heap());
+    // Nothing says that an input ends, so its lines are counted. Not `split`: it takes new memory for each line, and
+    // one of 131,072 digits then takes half as long again.
+    for _ in 0..u64::MAX {
+        line.clear();
+        let len = input
+            .read_until(b'\n', &mut line)
+            .map_err(Stop::Unreadable)?;
+        if len == 0 {
+            break;
+        }
         player.play_line(line.as_slice())?;
     }
     Ok(())

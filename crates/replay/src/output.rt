@@ -4,7 +4,8 @@ use std::alloc::Global;
 use std::io;
 use std::io::{Stdout, Write};
 
-// Standard output is unbuffered: each write is a call of the system.
+// Standard output is unbuffered: each write is a call of the system. Not a `BufWriter`: a row's line is made in a `Vec`,
+// and would be copied once more.
 const PIECE_BYTES: usize = 65536;
 
 #[derive(Drop)]
