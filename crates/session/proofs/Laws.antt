@@ -20,12 +20,12 @@ join b bs x y z p q r =
     ∙ ap (λ n. Some (n ∷ bs)) whole
 
 lower_case : (bs : List ℕ) → AllByRecursion (λ b. b < 256) bs → bytes_of (hex_of bs) ≡ Some bs
-unfolding bytes_of hex_of
+unfolding bytes_of
 lower_case [] _ = refl
 lower_case (b ∷ bs) (h, hs) = join b bs _ _ _ (lower_back (b / 16) (omega arith)) (lower_back (b % 16) (omega arith)) (lower_case bs hs)
 
 upper_case : (bs : List ℕ) → AllByRecursion (λ b. b < 256) bs → bytes_of (map upper (hex_of bs)) ≡ Some bs
-unfolding bytes_of hex_of
+unfolding bytes_of
 upper_case [] _ = refl
 upper_case (b ∷ bs) (h, hs) = join b bs _ _ _ (upper_back (b / 16) (omega arith)) (upper_back (b % 16) (omega arith)) (upper_case bs hs)
 

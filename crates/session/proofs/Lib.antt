@@ -1,3 +1,2 @@
-mod Writing
 mod Laws
 mod Reading

@@ -1,5 +1,5 @@
 -- Reading hex pair by pair: what is read so far, and what is to come, make up the whole.
-use Rattle.std.proofs.Common.{◌≡◌, ℕ, ◌+◌, ◌*◌, ◌^◌, ◌<◌, ◌≤◌, min, true, List, [], ◌∷◌, ◌++◌, length, is_some, Some, None, Ok, Err, Option, Result, MatchResult, IsErrAnd, sym, refl, ap, ◌∙◌, ap₂, length-append, append_assoc, append-nil, arith}
+use Rattle.std.proofs.Common.{◌≡◌, ℕ, ◌+◌, ◌*◌, ◌<◌, ◌≤◌, min, true, List, [], ◌∷◌, ◌++◌, length, is_some, Some, None, Ok, Err, Option, Result, MatchResult, IsErrAnd, sym, refl, ap, ◌∙◌, ap₂, length-append, append_assoc, append-nil, arith}
 use Rattle.std.proofs.lemmas.Bool.Decides.{nat_tests}
 use Rattle.std.proofs.lemmas.List.{nil_from_length}
 use Rattle.std.proofs.lemmas.List.Folds.{prefix_len-append}
@@ -7,7 +7,7 @@ use Rattle.std.proofs.lemmas.List.Sums.{prefix_len-drop_yes, prefix_len-drop_no,
 use Rattle.session.specs.declared.hex.HexError.{HexError}
 use Rattle.session.specs.declared.hex.HexError.TheVariants.{NotADigit, MissingDigit, OutOfMemory}
 use Rattle.session.specs.Hex.{digit_value, is_digit, digits_in, with_some, bytes_of}
-use Rattle.session.specs.HexResults.{DigitAt, RefusesHex, FitsBeyond, moved}
+use Rattle.session.specs.HexResults.{DigitAt, RefusesHex, moved}
 use Rattle.session.proofs.Laws.{paired, even_digits}
 
 -- what `map_err` by `beyond` gives, whose closure may give g for f where post says so

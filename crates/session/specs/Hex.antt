@@ -1,6 +1,6 @@
 -- Bytes as hex digits, and what text of digits stands for. Assumes nothing: these are definitions.
-use Rattle.std.specs.Prelude.{◌≡◌, ℕ, ◌+◌, ◌-◌, ◌*◌, ◌/◌, ◌%◌, ◌<◌, Bool, true, cond, ◌&&◌, List, [], ◌∷◌, ◌++◌, map, length, is_some, Some, None, Option, nat_le, nat_lt}
-use Rattle.std.specs.List.{prefix_len, AllByRecursion}
+use Rattle.std.specs.Prelude.{◌≡◌, ℕ, ◌+◌, ◌-◌, ◌*◌, ◌/◌, ◌%◌, ◌<◌, Bool, true, cond, ◌&&◌, List, [], ◌∷◌, map, length, is_some, Some, None, Option, nat_le, nat_lt}
+use Rattle.std.specs.List.{prefix_len, flat_map, AllByRecursion}
 
 -- the digit of a number below 16: 0 to 9, then a to f
 abbrev pub digit : ℕ → ℕ
@@ -9,9 +9,8 @@ digit n = cond (nat_lt n 10) (48 + n) (87 + n)
 abbrev pub digits : ℕ → List ℕ
 digits b = digit (b / 16) ∷ digit (b % 16) ∷ []
 
-unfoldable pub hex_of : List ℕ → List ℕ
-hex_of [] = []
-hex_of (b ∷ bs) = digits b ++ hex_of bs
+abbrev pub hex_of : List ℕ → List ℕ
+hex_of bs = flat_map digits bs
 
 abbrev between : ℕ → ℕ → ℕ → Bool
 between low high c = nat_le low c && nat_le c high

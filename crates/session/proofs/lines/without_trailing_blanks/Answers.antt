@@ -10,5 +10,5 @@ use Rattle.session.proofs.lines.without_trailing_blanks.Goals as goal
 pub returns : goal.returns
 returns c =
     let line = c.args.line.now in
-    let trailing = count_from_yields_List c.take_while.result _ c.count-trailing.ensures.ran (YieldsList-from_take_while _ blank (YieldsList-from_rev_slice line (cc)) c.take_while.ensures.closure c.take_while.ensures.done (λ x b q k. search (rules, tests))) ∙ length-prefix_len blank (reverse line) in
+    let trailing = count_from_yields_List c.take_while.result c.count-trailing.result c.count-trailing.ensures.ran (YieldsList-from_take_while _ blank (YieldsList-from_rev_slice line (cc)) c.take_while.ensures.closure c.take_while.ensures.done (λ x b q k. search (rules, tests))) ∙ length-prefix_len blank (reverse line) in
     ap (λ n. take (length line - n) line) trailing
