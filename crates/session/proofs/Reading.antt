@@ -75,10 +75,6 @@ alone (c ∷ d ∷ e ∷ pair) none all two = absurd (omega arith)
 abbrev pub before : List ℕ → Option (List ℕ) → Option (List ℕ)
 before front rest = with_some rest (λ bs. Some (front ++ bs))
 
-before-nil : (rest : Option (List ℕ)) → rest ≡ before [] rest
-before-nil None = refl
-before-nil (Some bs) = refl
-
 before-before : (a b : List ℕ) (rest : Option (List ℕ)) → before a (before b rest) ≡ before (a ++ b) rest
 before-before a b None = refl
 before-before a b (Some bs) = ap (λ xs. Some xs) (sym (append_assoc a b bs))
@@ -106,9 +102,6 @@ pub record SoFar (text items rest : List ℕ) : Type 0 where
   pub whole : length text ≡ 2 * length items + length rest
   pub bytes : bytes_of text ≡ before items (bytes_of rest)
   pub digits : digits_in text ≡ 2 * length items + digits_in rest
-
-pub so_far_none : (text items rest : List ℕ) → items ≡ [] → rest ≡ text → SoFar text items rest
-so_far_none text items rest e r = rw (e, r) (record { whole = omega arith; bytes = before-nil (bytes_of text); digits = omega arith })
 
 module _ {text items rest : List ℕ} (s : SoFar text items rest) (pair next : List ℕ) (parts : rest ≡ pair ++ next) where
   sizes : length rest ≡ length pair + length next
