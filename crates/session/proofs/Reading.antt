@@ -1,12 +1,13 @@
 -- Reading hex pair by pair: what is read so far, and what is to come, make up the whole.
 use Rattle.std.proofs.Common.{◌≡◌, ℕ, ◌+◌, ◌*◌, ◌<◌, ◌≤◌, min, true, List, [], ◌∷◌, ◌++◌, length, is_some, Some, None, Ok, Err, Option, Result, MatchResult, IsErrAnd, sym, refl, ap, ◌∙◌, ap₂, length-append, append_assoc, append-nil, arith}
+use Rattle.std.specs.Option.{option_map}
 use Rattle.std.proofs.lemmas.Bool.Decides.{nat_tests}
 use Rattle.std.proofs.lemmas.List.{nil_from_length}
 use Rattle.std.proofs.lemmas.List.Folds.{prefix_len-append}
 use Rattle.std.proofs.lemmas.List.Sums.{prefix_len-drop_yes, prefix_len-drop_no, prefix_len-drop_all, prefix_len-le-length}
 use Rattle.session.specs.declared.hex.HexError.{HexError}
 use Rattle.session.specs.declared.hex.HexError.TheVariants.{NotADigit, MissingDigit, OutOfMemory}
-use Rattle.session.specs.Hex.{digit_value, is_digit, digits_in, with_some, bytes_of}
+use Rattle.session.specs.Hex.{digit_value, is_digit, digits_in, bytes_of}
 use Rattle.session.specs.HexResults.{DigitAt, RefusesHex, moved}
 use Rattle.session.proofs.Laws.{paired, even_digits}
 
@@ -73,7 +74,7 @@ alone (c ∷ d ∷ e ∷ pair) none all two = absurd (omega arith)
 
 -- bytes put before those that a text stands for
 abbrev pub before : List ℕ → Option (List ℕ) → Option (List ℕ)
-before front rest = with_some rest (λ bs. Some (front ++ bs))
+before front rest = option_map (λ bs. front ++ bs) rest
 
 before-before : (a b : List ℕ) (rest : Option (List ℕ)) → before a (before b rest) ≡ before (a ++ b) rest
 before-before a b None = refl
