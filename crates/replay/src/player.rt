@@ -52,12 +52,11 @@ impl Player {
 
     pub fn play_line(&mut self, text: &[u8]) -> Result<(), Stop> {
         self.line = self.line.saturating_add(1);
-        let line = self.line;
-        let Some(command) = read_line(self.heap, text).map_err(|error| Stop::in_line(line, error))?
-        else {
-            return Ok(());
-        };
-        self.say(command.as_slice())
+        let said = read_line(self.heap, text).map_err(|error| Stop::in_line(self.line, error))?;
+        match said {
+            Some(command) => self.say(command.as_slice()),
+            None => Ok(()),
+        }
     }
 
     fn step(&mut self, kind: u64, text: &[u8]) -> Told {
