@@ -27,6 +27,7 @@ is_digit c = is_some (digit_value c)
 abbrev pub digits_in : List ℕ → ℕ
 digits_in text = prefix_len is_digit text
 
+-- one step and the next, each of which may give nothing
 infixl 10 ◌>>=◌
 abbrev pub ◌>>=◌ : {A B : Type 0} → Option A → (A → Option B) → Option B
 o >>= f = option_and_then f o

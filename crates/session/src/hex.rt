@@ -66,7 +66,7 @@ fn digit_at(pair: &[u8], at: usize) -> Result<u8, HexError>
     value_of(*byte).ok_or(HexError::NotADigit(at))
 }
 
-fn byte_of(pair: &[u8]) -> Result<u8, HexError>
+fn read_pair(pair: &[u8]) -> Result<u8, HexError>
     requires some { 0 < length pair.now }
     requires two { length pair.now ≤ 2 }
     ensures { ReadsByte pair.now result }
@@ -103,7 +103,7 @@ pub fn read_hex(heap: Global, text: &[u8]) -> Result<Vec<u8>, HexError>
 {
     let mut bytes = Vec::with_capacity(heap, text.len() / 2)?;
     for pair in text.chunks(2) {
-        let byte = byte_of(pair).map_err(|error| error.beyond(2 * bytes.len()))?;
+        let byte = read_pair(pair).map_err(|error| error.beyond(2 * bytes.len()))?;
         bytes.push(byte)?;
     }
     Ok(bytes)

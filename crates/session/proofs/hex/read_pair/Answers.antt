@@ -1,7 +1,7 @@
 -- Two digits are a byte; the first that is none is where the pair is refused.
 use Rattle.std.proofs.lemmas.Result.{err_from_is_err_and}
 use Rattle.session.proofs.Reading.{reads_two, refuse_first, refuse_second}
-use Rattle.session.proofs.hex.byte_of.Goals as goal
+use Rattle.session.proofs.hex.read_pair.Goals as goal
 
 pub returns-in_err-high : goal.returns-in_err-high
 returns-in_err-high c =
