@@ -17,41 +17,33 @@ fn play_lines<R: Read + Drop>(player: &mut Player, source: R) -> Result<(), Stop
     player.start();
     let mut input = BufReader::new(player.heap(), source)?;
     let mut line = Vec::new(player.heap());
-    // Nothing says that an input ends, so its lines are counted.
+    // Nothing says that an input ends, so its lines are counted. Not `split`: it takes new memory for each line, and
+    // one of 131,072 digits then takes half as long again.
     for _ in 0..u64::MAX {
         line.clear();
-        match input.read_until(b'\n', &mut line) {
-            Ok(0) => break,
-            Ok(_) => player.play_line(line.as_slice())?,
-            Err(error) => return Err(Stop::Unreadable(error)),
+        let len = input
+            .read_until(b'\n', &mut line)
+            .map_err(Stop::Unreadable)?;
+        if len == 0 {
+            break;
         }
+        player.play_line(line.as_slice())?;
     }
     Ok(())
 }
 
 fn play_file(rt: &HostRuntime, player: &mut Player, name: &str) -> Result<(), Stop> {
-    match File::open(rt, name) {
-        Ok(file) => play_lines(player, file),
-        Err(error) => Err(Stop::Unreadable(error)),
-    }
-}
-
-fn play_input(rt: &HostRuntime, player: &mut Player) -> Result<(), Fault> {
-    match play_lines(player, rt.stdin()) {
-        Ok(()) => Ok(()),
-        Err(stop) => Err(Fault::Input(stop)),
-    }
+    let file = File::open(rt, name).map_err(Stop::Unreadable)?;
+    play_lines(player, file)
 }
 
 fn play_all(rt: &HostRuntime, player: &mut Player) -> Result<(), Fault> {
     let args = env::args(rt)?;
     if args.len() < 2 {
-        return play_input(rt, player);
+        return play_lines(player, rt.stdin()).map_err(Fault::Input);
     }
     for name in args.skip(1) {
-        if let Err(stop) = play_file(rt, player, name.as_str()) {
-            return Err(Fault::File { name, stop });
-        }
+        play_file(rt, player, name.as_str()).map_err(|stop| Fault::File { name, stop })?;
     }
     Ok(())
 }

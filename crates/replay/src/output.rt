@@ -4,12 +4,12 @@ use std::alloc::Global;
 use std::io;
 use std::io::{Stdout, Write};
 
-// Standard output is unbuffered: each write is a call of the system.
+// Standard output is unbuffered: each write is a call of the system. Not a `BufWriter`: a row's line is made in a `Vec`,
+// and would be copied once more.
 const PIECE_BYTES: usize = 65536;
 
 #[derive(Drop)]
 pub struct Output {
-    heap: Global,
     stdout: Stdout,
     pending: Vec<u8>,
 }
@@ -17,11 +17,7 @@ pub struct Output {
 impl Output {
     pub fn new(heap: Global, stdout: Stdout) -> Output {
         let pending = Vec::new(heap);
-        Output {
-            heap,
-            stdout,
-            pending,
-        }
+        Output { stdout, pending }
     }
 
     pub fn row(&mut self, row: &[u8]) -> io::Result<()> {
@@ -30,7 +26,7 @@ impl Output {
     }
 
     pub fn ending(&mut self, ending: Ending) -> io::Result<()> {
-        write_ending(self.heap, &mut self.pending, ending)?;
+        write_ending(&mut self.pending, ending)?;
         self.flush_large()
     }
 

@@ -1,13 +1,13 @@
 // A machine with the memory and the row that it is lent, told the commands of a session.
 ghost use Rattle.std.specs.Prelude.{◌≡◌, replicate, vec_len};
 
-use crate::fault::{Place, Stop};
+use crate::fault::Stop;
 use crate::output::Output;
 use machine::step::{GO_ON, ROW_BYTES, SAID, step};
 use machine::told::Told;
 use memory::layout::MEMORY_WORDS;
-use session::{Ending, HexError, Line, read_line};
-use std::alloc::{AllocError, Global};
+use session::{Ending, read_line};
+use std::alloc::Global;
 use std::io;
 use std::io::Stdout;
 
@@ -24,7 +24,7 @@ pub struct Player {
 }
 
 impl Player {
-    pub fn new(heap: Global, stdout: Stdout) -> Result<Player, AllocError> {
+    pub fn new(heap: Global, stdout: Stdout) -> io::Result<Player> {
         let memory = vec![in heap; 0u64; MEMORY_WORDS]?;
         let row = vec![in heap; 0u8; ROW_BYTES]?;
         let output = Output::new(heap, stdout);
@@ -52,20 +52,10 @@ impl Player {
 
     pub fn play_line(&mut self, text: &[u8]) -> Result<(), Stop> {
         self.line = self.line.saturating_add(1);
-        match read_line(self.heap, text) {
-            Ok(Line::Skip) => Ok(()),
-            Ok(Line::Command(command)) => self.say(command.as_slice()),
-            Err(HexError::NotADigit(at)) => Err(Stop::NotADigit(self.place(at))),
-            Err(HexError::MissingDigit(at)) => Err(Stop::MissingDigit(self.place(at))),
-            Err(HexError::OutOfMemory) => Err(Stop::from(AllocError)),
-        }
-    }
-
-    fn place(&self, at: usize) -> Place {
-        let column = (at as u64).saturating_add(1);
-        Place {
-            line: self.line,
-            column,
+        let said = read_line(self.heap, text).map_err(|error| Stop::in_line(self.line, error))?;
+        match said {
+            Some(command) => self.say(command.as_slice()),
+            None => Ok(()),
         }
     }
 
@@ -92,10 +82,9 @@ impl Player {
     }
 
     fn show(&mut self, len: u64) -> Result<(), Stop> {
-        match self.row.as_slice().get(0..len as usize) {
-            Some(row) => Ok(self.output.row(row)?),
-            None => Err(Stop::LongRow { line: self.line }),
-        }
+        let row = self.row.as_slice().get(..len as usize);
+        let row = row.ok_or(Stop::LongRow { line: self.line })?;
+        Ok(self.output.row(row)?)
     }
 
     pub fn flush(&mut self) -> io::Result<()> {

@@ -1,9 +1,9 @@
 -- What is written as hex is read back, and what text stands for bytes: inductions over pairs of digits.
-use Rattle.std.proofs.Common.{◌≡◌, ℕ, suc, ◌+◌, ◌*◌, ◌/◌, ◌%◌, ◌<◌, true, cond, List, [], ◌∷◌, map, length, is_some, Some, None, Option, refl, ap, ◌∙◌, ap₂, arith}
+use Rattle.std.proofs.Common.{◌≡◌, ℕ, suc, ◌+◌, ◌*◌, ◌/◌, ◌%◌, ◌<◌, true, cond, List, [], ◌∷◌, map, length, is_some, Some, None, Option, refl, arith}
 use borrow.Author.Tests.{clash}
 use Rattle.std.specs.List.{AllByRecursion}
 use Rattle.std.proofs.lemmas.Bool.Decides.{nat_tests}
-use Rattle.session.specs.Hex.{digit, digit_value, digits_in, upper, with_some, hex_of, bytes_of, ReadBack, EvenDigits}
+use Rattle.session.specs.Hex.{digit, digit_value, digits_in, upper, ◌>>=◌, hex_of, bytes_of, ReadBack, EvenDigits}
 
 lower_back : (n : ℕ) → n < 16 → digit_value (digit n) ≡ Some n
 lower_back n h = grind (arith, nat_tests)
@@ -11,30 +11,32 @@ lower_back n h = grind (arith, nat_tests)
 upper_back : (n : ℕ) → n < 16 → digit_value (upper (digit n)) ≡ Some n
 upper_back n h = grind (arith, nat_tests)
 
+-- what two bytes and the text after them are read as
+abbrev pub paired : Option ℕ → Option ℕ → Option (List ℕ) → Option (List ℕ)
+paired x y z = do
+  high ← x
+  low ← y
+  rest ← z
+  Some ((high * 16 + low) ∷ rest)
+
 -- two digits that are read as the halves of b, before digits that are read as bs
-join : (b : ℕ) (bs : List ℕ) (x y : Option ℕ) (z : Option (List ℕ)) → x ≡ Some (b / 16) → y ≡ Some (b % 16) → z ≡ Some bs → with_some x (λ high. with_some y (λ low. with_some z (λ rest. Some ((high * 16 + low) ∷ rest)))) ≡ Some (b ∷ bs)
+join : (b : ℕ) (bs : List ℕ) (x y : Option ℕ) (z : Option (List ℕ)) → x ≡ Some (b / 16) → y ≡ Some (b % 16) → z ≡ Some bs → paired x y z ≡ Some (b ∷ bs)
 join b bs x y z p q r =
     let whole : b / 16 * 16 + b % 16 ≡ b = omega arith in
-    ap₂ (λ u v. with_some u (λ high. with_some v (λ low. with_some z (λ rest. Some ((high * 16 + low) ∷ rest))))) p q
-    ∙ ap (λ w. with_some w (λ rest. Some ((b / 16 * 16 + b % 16) ∷ rest))) r
-    ∙ ap (λ n. Some (n ∷ bs)) whole
+    rw (p, q, r, whole)
 
 lower_case : (bs : List ℕ) → AllByRecursion (λ b. b < 256) bs → bytes_of (hex_of bs) ≡ Some bs
-unfolding bytes_of hex_of
+unfolding bytes_of
 lower_case [] _ = refl
 lower_case (b ∷ bs) (h, hs) = join b bs _ _ _ (lower_back (b / 16) (omega arith)) (lower_back (b % 16) (omega arith)) (lower_case bs hs)
 
 upper_case : (bs : List ℕ) → AllByRecursion (λ b. b < 256) bs → bytes_of (map upper (hex_of bs)) ≡ Some bs
-unfolding bytes_of hex_of
+unfolding bytes_of
 upper_case [] _ = refl
 upper_case (b ∷ bs) (h, hs) = join b bs _ _ _ (upper_back (b / 16) (omega arith)) (upper_back (b % 16) (omega arith)) (upper_case bs hs)
 
 pub read_back : ReadBack
 read_back = record { lower_case = lower_case; upper_case = upper_case }
-
--- what two bytes and the text after them are read as
-abbrev paired : Option ℕ → Option ℕ → Option (List ℕ) → Option (List ℕ)
-paired x y z = with_some x (λ high. with_some y (λ low. with_some z (λ rest. Some ((high * 16 + low) ∷ rest))))
 
 -- how many digits stand at the front of two bytes and n more
 abbrev counted : Option ℕ → Option ℕ → ℕ → ℕ
@@ -73,5 +75,5 @@ even [] _ = refl
 even (c ∷ []) h = absurd (clash h)
 even (c ∷ d ∷ text) h = omega (arith, even text (paired-parts (digit_value c) (digit_value d) (bytes_of text) (digits_in text) h).1)
 
-pub even-digits : EvenDigits
-even-digits = record { stands = stands; all_digits = all_digits; even = even }
+pub even_digits : EvenDigits
+even_digits = record { stands = stands; all_digits = all_digits; even = even }

@@ -1,4 +1,2 @@
-mod Writing
-mod Reading
 mod Laws
-mod Edges
+mod Reading

@@ -1,99 +1,141 @@
 -- Reading hex pair by pair: what is read so far, and what is to come, make up the whole.
-use Rattle.std.proofs.Common.{◌≡◌, ℕ, ◌+◌, ◌*◌, ◌<◌, ◌≤◌, List, [], ◌∷◌, ◌++◌, length, get_or, drop, is_some, Some, None, Ok, Err, Option, sym, refl, ap, ◌∙◌, ap₂, append_assoc, append-nil, arith}
-use Rattle.std.proofs.lemmas.List.{drop_more, drop_all}
-use Rattle.std.proofs.lemmas.List.Sums.{prefix_len-drop_yes, prefix_len-drop_no, prefix_len-drop_all}
+use Rattle.std.proofs.Common.{◌≡◌, ℕ, ◌+◌, ◌*◌, ◌<◌, ◌≤◌, min, true, List, [], ◌∷◌, ◌++◌, length, is_some, Some, None, Ok, Err, Option, Result, MatchResult, IsErrAnd, sym, refl, ap, ◌∙◌, ap₂, length-append, append_assoc, append-nil, arith}
+use Rattle.std.specs.Option.{option_map}
+use Rattle.std.proofs.lemmas.Bool.Decides.{nat_tests}
+use Rattle.std.proofs.lemmas.List.{nil_from_length}
+use Rattle.std.proofs.lemmas.List.Folds.{prefix_len-append}
+use Rattle.std.proofs.lemmas.List.Sums.{prefix_len-drop_yes, prefix_len-drop_no, prefix_len-drop_all, prefix_len-le-length}
 use Rattle.session.specs.declared.hex.HexError.{HexError}
 use Rattle.session.specs.declared.hex.HexError.TheVariants.{NotADigit, MissingDigit, OutOfMemory}
-use Rattle.session.specs.Hex.{digit_value, is_digit, digits_in, with_some, bytes_of}
-use Rattle.session.specs.HexResults.{DigitAt, RefusesHex}
+use Rattle.session.specs.Hex.{digit_value, is_digit, digits_in, bytes_of}
+use Rattle.session.specs.HexResults.{DigitAt, RefusesHex, moved}
+use Rattle.session.proofs.Laws.{paired, even_digits}
+
+-- what `map_err` by `beyond` gives, whose closure may give g for f where post says so
+pub beyond_err : {A : Type 0} (margin : ℕ) (r out : Result A HexError) (e : HexError) (post : HexError → HexError → Type 0) → out ≡ Err e → MatchResult r (λ x. out ≡ Ok x) (λ f. IsErrAnd out (post f)) → ((f g : HexError) → post f g → g ≡ moved margin f) → (f : HexError) × (r ≡ Err f) × (e ≡ moved margin f)
+beyond_err margin (Ok x) out e post is cases given = absurd (cc)
+beyond_err margin (Err f) (Ok x) e post is cases given = absurd (cc)
+beyond_err margin (Err f) (Err g) e post is cases given = let same : e ≡ g = cc in (f, refl, same ∙ given f g cases)
+
+pub beyond_ok : {A : Type 0} (r out : Result A HexError) (x : A) (post : HexError → HexError → Type 0) → out ≡ Ok x → MatchResult r (λ y. out ≡ Ok y) (λ f. IsErrAnd out (post f)) → r ≡ Ok x
+beyond_ok (Ok y) out x post is cases = cc
+beyond_ok (Err f) (Ok x) y post is cases = absurd cases
+beyond_ok (Err f) (Err g) x post is cases = absurd (cc)
+
+-- ---- a pair
+
+pub reads_two : (pair : List ℕ) (high low : ℕ) → length pair ≤ 2 → DigitAt pair 0 (Ok high) → DigitAt pair 1 (Ok low) → bytes_of pair ≡ Some ((16 * high + low) ∷ [])
+unfolding bytes_of
+reads_two [] high low two p (within, _, _) = absurd (omega arith)
+reads_two (c ∷ []) high low two p (within, _, _) = absurd (omega arith)
+reads_two (c ∷ d ∷ []) high low two (_, p, _) (_, q, _) =
+    let byte : high * 16 + low ≡ 16 * high + low = omega arith in
+    ap₂ (λ x y. paired x y (Some [])) p q ∙ ap (λ n. Some (n ∷ [])) byte
+reads_two (c ∷ d ∷ e ∷ pair) high low two p q = absurd (omega arith)
+
+none_from : {A : Type 0} (o : Option A) → (is_some o ≡ true → ⊥) → o ≡ None
+none_from None never = refl
+none_from (Some x) never = absurd (never refl)
+
+none_at_fault : (text : List ℕ) → digits_in text < length text → bytes_of text ≡ None
+none_at_fault text h = none_from (bytes_of text) (λ s. absurd (omega (arith, even_digits.all_digits text s)))
+
+none_at_end : (text : List ℕ) (n : ℕ) → length text ≡ 2 * n + 1 → bytes_of text ≡ None
+none_at_end text n h = none_from (bytes_of text) (λ s. absurd (omega (arith, even_digits.even text s)))
+
+pub refuse_first : (pair : List ℕ) → 0 < length pair → (e : HexError) → DigitAt pair 0 (Err e) → RefusesHex pair e
+refuse_first pair some (NotADigit i) (h, p, is) =
+    let none : digits_in pair ≡ 0 = prefix_len-drop_no is_digit pair 0 0 h (ap is_some p) in
+    (none_at_fault pair (omega arith), omega arith, omega arith)
+refuse_first pair some (MissingDigit i) (h, is) = absurd (omega arith)
+refuse_first pair some OutOfMemory h = absurd h
+
+pub refuse_second : (pair : List ℕ) (high : ℕ) → DigitAt pair 0 (Ok high) → (e : HexError) → DigitAt pair 1 (Err e) → RefusesHex pair e
+refuse_second pair high (h, p, _) (NotADigit i) (h', q, is) =
+    let front : digits_in pair ≡ _ = prefix_len-drop_yes is_digit pair 0 0 h (ap is_some p) in
+    let back = prefix_len-drop_no is_digit pair 1 0 h' (ap is_some q) in
+    let one : digits_in pair ≡ 1 = omega arith in
+    (none_at_fault pair (omega arith), omega arith, omega arith)
+refuse_second pair high (h, p, _) (MissingDigit i) (h', is) =
+    let front : digits_in pair ≡ _ = prefix_len-drop_yes is_digit pair 0 0 h (ap is_some p) in
+    let back = prefix_len-drop_all is_digit pair 1 h' in
+    let one : digits_in pair ≡ 1 = omega arith in
+    (none_at_end pair 0 (omega arith), omega arith, omega arith)
+refuse_second pair high _ OutOfMemory h = absurd h
+
+-- digits that are no byte are one alone
+alone : (pair : List ℕ) → bytes_of pair ≡ None → digits_in pair ≡ length pair → length pair ≤ 2 → length pair ≡ 1
+alone [] none all two = let some = even_digits.stands [] all refl in absurd (cc)
+alone (c ∷ []) none all two = refl
+alone (c ∷ d ∷ []) none all two = let some = even_digits.stands (c ∷ d ∷ []) all refl in absurd (cc)
+alone (c ∷ d ∷ e ∷ pair) none all two = absurd (omega arith)
+
+-- ---- a text, pair by pair
 
 -- bytes put before those that a text stands for
 abbrev pub before : List ℕ → Option (List ℕ) → Option (List ℕ)
-before front rest = with_some rest (λ bs. Some (front ++ bs))
-
-before-nil : (rest : Option (List ℕ)) → rest ≡ before [] rest
-before-nil None = refl
-before-nil (Some bs) = refl
+before front rest = option_map (λ bs. front ++ bs) rest
 
 before-before : (a b : List ℕ) (rest : Option (List ℕ)) → before a (before b rest) ≡ before (a ++ b) rest
 before-before a b None = refl
 before-before a b (Some bs) = ap (λ xs. Some xs) (sym (append_assoc a b bs))
 
-never : {A B : Type 0} (o : Option A) → with_some {B = B} o (λ _. None) ≡ None
-never None = refl
-never (Some x) = refl
+paired-before : (x y : Option ℕ) (b : ℕ) (rest : Option (List ℕ)) → paired x y (Some []) ≡ Some (b ∷ []) → paired x y rest ≡ before (b ∷ []) rest
+paired-before (Some high) (Some low) b rest e = let byte : high * 16 + low ≡ b = cc in ap (λ n. before (n ∷ []) rest) byte
+paired-before (Some high) None b rest e = absurd (cc)
+paired-before None y b rest e = absurd (cc)
 
-pair : (c d high low : ℕ) (text : List ℕ) → digit_value c ≡ Some high → digit_value d ≡ Some low → bytes_of (c ∷ d ∷ text) ≡ before ((high * 16 + low) ∷ []) (bytes_of text)
+bytes_of-pair : (pair rest : List ℕ) (b : ℕ) → length pair ≤ 2 → bytes_of pair ≡ Some (b ∷ []) → (bytes_of (pair ++ rest) ≡ before (b ∷ []) (bytes_of rest)) × (length pair ≡ 2)
 unfolding bytes_of
-pair c d high low text p q =
-    ap₂ (λ x y. with_some x (λ h. with_some y (λ l. with_some (bytes_of text) (λ bs. Some ((h * 16 + l) ∷ bs))))) p q
+bytes_of-pair [] rest b two e = absurd (cc)
+bytes_of-pair (c ∷ []) rest b two e = absurd (cc)
+bytes_of-pair (c ∷ d ∷ []) rest b two e = (paired-before (digit_value c) (digit_value d) b (bytes_of rest) e, refl)
+bytes_of-pair (c ∷ d ∷ f ∷ pair) rest b two e = absurd (omega arith)
 
-first-wrong : (c : ℕ) (text : List ℕ) → digit_value c ≡ None → bytes_of (c ∷ text) ≡ None
-unfolding bytes_of
-first-wrong c [] p = refl
-first-wrong c (d ∷ text) p =
-    ap (λ x. with_some x (λ h. with_some (digit_value d) (λ l. with_some (bytes_of text) (λ bs. Some ((h * 16 + l) ∷ bs))))) p
+digits_past : (pair next : List ℕ) → digits_in pair ≡ length pair → digits_in (pair ++ next) ≡ length pair + digits_in next
+digits_past pair next h = grind (arith, nat_tests, prefix_len-append is_digit pair next)
 
-second-wrong : (c d : ℕ) (text : List ℕ) → digit_value d ≡ None → bytes_of (c ∷ d ∷ text) ≡ None
-unfolding bytes_of
-second-wrong c d text p =
-    ap (λ y. with_some (digit_value c) (λ h. with_some y (λ l. with_some (bytes_of text) (λ bs. Some ((h * 16 + l) ∷ bs))))) p
-    ∙ never (digit_value c)
+digits_within : (pair next : List ℕ) → digits_in pair < length pair → digits_in (pair ++ next) ≡ digits_in pair
+digits_within pair next h = grind (arith, nat_tests, prefix_len-append is_digit pair next)
 
-alone : (c : ℕ) → bytes_of (c ∷ []) ≡ None
-unfolding bytes_of
-alone c = refl
+-- the digits at the front of text stand for items, and rest is behind them
+pub record SoFar (text items rest : List ℕ) : Type 0 where
+  pub whole : length text ≡ 2 * length items + length rest
+  pub bytes : bytes_of text ≡ before items (bytes_of rest)
+  pub digits : digits_in text ≡ 2 * length items + digits_in rest
 
--- the first k bytes of text are digits, and stand for items
-pub record SoFar (text items : List ℕ) (k : ℕ) : Type 0 where
-  pub within : k ≤ length text
-  pub bytes : bytes_of text ≡ before items (bytes_of (drop k text))
-  pub digits : digits_in text ≡ k + digits_in (drop k text)
+module _ {text items rest : List ℕ} (s : SoFar text items rest) (pair next : List ℕ) (parts : rest ≡ pair ++ next) where
+  sizes : length rest ≡ length pair + length next
+  sizes = ap length parts ∙ length-append pair next
 
-pub so_far_none : (text items : List ℕ) → items ≡ [] → SoFar text items 0
-so_far_none text items e = record {
-  within = omega arith;
-  bytes = before-nil (bytes_of text) ∙ ap (λ xs. before xs (bytes_of text)) (sym e);
-  digits = omega arith;
-}
+  ahead : digits_in rest ≡ digits_in (pair ++ next)
+  ahead = ap digits_in parts
 
-module _ {text items : List ℕ} {k : ℕ} (s : SoFar text items k) where
-  two : k + 1 < length text → drop k text ≡ get_or text k 0 ∷ get_or text (k + 1) 0 ∷ drop (k + 1 + 1) text
-  two h = drop_more text k 0 (omega arith) ∙ ap (λ xs. get_or text k 0 ∷ xs) (drop_more text (k + 1) 0 h)
-
-  pub so_far_more : (high low next : ℕ) (grown : List ℕ) → next ≡ k + 1 + 1 → grown ≡ items ++ (high * 16 + low) ∷ [] → DigitAt text k (Ok high) → DigitAt text (k + 1) (Ok low) → SoFar text grown next
-  so_far_more high low next grown e g (h, p, _) (h', q, _) =
-      let here = ap bytes_of (two h') ∙ pair _ _ high low _ p q in
-      let front = prefix_len-drop_yes is_digit text k 0 h (ap is_some p) in
-      let back = prefix_len-drop_yes is_digit text (k + 1) 0 h' (ap is_some q) in
+  pub so_far_more : (b : ℕ) (grown : List ℕ) → grown ≡ items ++ b ∷ [] → length pair ≤ 2 → bytes_of pair ≡ Some (b ∷ []) → SoFar text grown next
+  so_far_more b grown g two e =
+      let p = bytes_of-pair pair next b two e in
+      let all = even_digits.all_digits pair (ap is_some e) in
+      let more = ap length g ∙ length-append items (b ∷ []) in
       record {
-        within = omega arith;
-        bytes = s.bytes ∙ ap (before items) here ∙ before-before items _ _ ∙ ap₂ (λ xs n. before xs (bytes_of (drop n text))) (sym g) (sym e);
-        digits = s.digits ∙ (omega (arith, ap (λ n. digits_in (drop n text)) e));
+        whole = omega (arith, sizes, p.1);
+        bytes = s.bytes ∙ ap (λ xs. before items (bytes_of xs)) parts ∙ ap (before items) p.0 ∙ before-before items (b ∷ []) _ ∙ ap (λ xs. before xs (bytes_of next)) (sym g);
+        digits = omega (arith, s.digits, ahead, digits_past pair next all, p.1);
       }
 
-  -- the first byte of the next pair is no digit
-  pub refuse_first : k < length text → (e : HexError) → DigitAt text k (Err e) → RefusesHex text e
-  refuse_first more (NotADigit i) (h, p, e) =
-      let here = ap bytes_of (drop_more text k 0 h) ∙ first-wrong _ _ p in
-      (s.bytes ∙ ap (before items) here, omega (arith, s.digits, prefix_len-drop_no is_digit text k 0 h (ap is_some p)), omega arith)
-  refuse_first more (MissingDigit i) (h, e) = absurd (omega arith)
-  refuse_first more OutOfMemory h = absurd h
+  -- the next pair is refused, and so the text
+  pub refuse_pair : (margin : ℕ) → margin ≡ 2 * length items → length pair ≡ min 2 (length rest) → (e : HexError) → RefusesHex pair e → RefusesHex text (moved margin e)
+  refuse_pair margin m size (NotADigit i) (b, at, within) =
+      let here : digits_in text ≡ margin + i = omega (arith, s.digits, ahead, digits_within pair next (omega arith)) in
+      let inside : margin + i < length text = omega (arith, s.whole, sizes) in
+      (none_at_fault text (omega arith), sym here, inside)
+  refuse_pair margin m size (MissingDigit i) (b, at, end) =
+      let one : length pair ≡ 1 = alone pair b (omega arith) (omega arith) in
+      let last : length next ≡ 0 = omega (arith, sizes) in
+      let total : length text ≡ 2 * length items + 1 = omega (arith, s.whole, sizes) in
+      let here : digits_in text ≡ 2 * length items + 1 = omega (arith, s.digits, ahead, digits_past pair next (omega arith), prefix_len-le-length is_digit next) in
+      (none_at_end text (length items) (omega arith), omega arith, omega arith)
+  refuse_pair margin m size OutOfMemory r = tt
 
-  -- the second byte of the next pair is no digit, or is missing
-  pub refuse_second : (high : ℕ) → DigitAt text k (Ok high) → (e : HexError) → DigitAt text (k + 1) (Err e) → RefusesHex text e
-  refuse_second high (h, p, _) (NotADigit i) (h', q, e) =
-      let here = ap bytes_of (two h') ∙ second-wrong _ _ _ q in
-      let front = prefix_len-drop_yes is_digit text k 0 h (ap is_some p) in
-      let back = prefix_len-drop_no is_digit text (k + 1) 0 h' (ap is_some q) in
-      (s.bytes ∙ ap (before items) here, omega (arith, s.digits), omega arith)
-  refuse_second high (h, p, _) (MissingDigit i) (h', e) =
-      let here = ap bytes_of (drop_more text k 0 h ∙ ap (λ xs. get_or text k 0 ∷ xs) (drop_all (k + 1) text h')) ∙ alone _ in
-      let front = prefix_len-drop_yes is_digit text k 0 h (ap is_some p) in
-      let back = prefix_len-drop_all is_digit text (k + 1) h' in
-      (s.bytes ∙ ap (before items) here, omega (arith, s.digits), omega arith)
-  refuse_second high _ OutOfMemory h = absurd h
-
-  pub read_whole : length text ≤ k → bytes_of text ≡ Some items
-  unfolding bytes_of
-  read_whole h = s.bytes ∙ ap (λ xs. before items (bytes_of xs)) (drop_all k text h) ∙ ap (λ xs. Some xs) (append-nil items)
+pub read_whole : (text items rest : List ℕ) → SoFar text items rest → length rest ≡ 0 → bytes_of text ≡ Some items
+unfolding bytes_of
+read_whole text items rest s h = s.bytes ∙ ap (λ xs. before items (bytes_of xs)) (nil_from_length rest h) ∙ ap (λ xs. Some xs) (append-nil items)

@@ -7,9 +7,9 @@ use Rattle.session.specs.Hex.{hex_of}
 abbrev pub with_row : List ℕ → List ℕ → List ℕ
 with_row printed row = printed ++ codes "shows " ++ hex_of row ++ codes "\n"
 
-abbrev pub refused_line : ℕ → List ℕ
-refused_line reason = codes "refused " ++ (decimal reason ++ codes "\n")
+abbrev pub ending_text : Ending → List ℕ
+ending_text Done = codes "done"
+ending_text (Refused reason) = codes "refused " ++ decimal reason
 
 abbrev pub with_ending : List ℕ → Ending → List ℕ
-with_ending printed Done = printed ++ codes "done\n"
-with_ending printed (Refused reason) = printed ++ refused_line reason
+with_ending printed ending = printed ++ ending_text ending ++ codes "\n"

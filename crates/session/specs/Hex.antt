@@ -1,6 +1,6 @@
 -- Bytes as hex digits, and what text of digits stands for. Assumes nothing: these are definitions.
-use Rattle.std.specs.Prelude.{◌≡◌, ℕ, ◌+◌, ◌-◌, ◌*◌, ◌/◌, ◌%◌, ◌<◌, Bool, true, cond, ◌&&◌, List, [], ◌∷◌, ◌++◌, map, length, is_some, Some, None, Option, nat_le, nat_lt}
-use Rattle.std.specs.List.{prefix_len, AllByRecursion}
+use Rattle.std.specs.Prelude.{◌≡◌, ℕ, ◌+◌, ◌-◌, ◌*◌, ◌/◌, ◌%◌, ◌<◌, Bool, true, cond, ◌&&◌, List, [], ◌∷◌, map, length, is_some, Some, None, Option, option_and_then, nat_le, nat_lt}
+use Rattle.std.specs.List.{prefix_len, flat_map, AllByRecursion}
 
 -- the digit of a number below 16: 0 to 9, then a to f
 abbrev pub digit : ℕ → ℕ
@@ -9,9 +9,8 @@ digit n = cond (nat_lt n 10) (48 + n) (87 + n)
 abbrev pub digits : ℕ → List ℕ
 digits b = digit (b / 16) ∷ digit (b % 16) ∷ []
 
-unfoldable pub hex_of : List ℕ → List ℕ
-hex_of [] = []
-hex_of (b ∷ bs) = digits b ++ hex_of bs
+abbrev pub hex_of : List ℕ → List ℕ
+hex_of bs = flat_map digits bs
 
 abbrev between : ℕ → ℕ → ℕ → Bool
 between low high c = nat_le low c && nat_le c high
@@ -28,16 +27,20 @@ is_digit c = is_some (digit_value c)
 abbrev pub digits_in : List ℕ → ℕ
 digits_in text = prefix_len is_digit text
 
-abbrev pub with_some : {A B : Type 0} → Option A → (A → Option B) → Option B
-with_some None f = None
-with_some (Some x) f = f x
+-- one step and the next, each of which may give nothing
+infixl 10 ◌>>=◌
+abbrev pub ◌>>=◌ : {A B : Type 0} → Option A → (A → Option B) → Option B
+o >>= f = option_and_then f o
 
 -- the bytes that text stands for, if it is digits, two to a byte
 unfoldable pub bytes_of : List ℕ → Option (List ℕ)
 bytes_of [] = Some []
 bytes_of (c ∷ []) = None
-bytes_of (c ∷ d ∷ text) =
-    with_some (digit_value c) (λ high. with_some (digit_value d) (λ low. with_some (bytes_of text) (λ bs. Some ((high * 16 + low) ∷ bs))))
+bytes_of (c ∷ d ∷ text) = do
+  high ← digit_value c
+  low ← digit_value d
+  bs ← bytes_of text
+  Some ((high * 16 + low) ∷ bs)
 
 -- a digit in upper case
 abbrev pub upper : ℕ → ℕ

@@ -1,5 +1,5 @@
 -- What the reader and the writer of hex answer.
-use Rattle.std.specs.Prelude.{◌≡◌, ℕ, ◌<◌, ◌≤◌, List, ◌++◌, length, take, Some, None, Ok, Err, vec_items, Result, Vec, slice_index}
+use Rattle.std.specs.Prelude.{◌≡◌, ℕ, ◌+◌, ◌^◌, ◌<◌, ◌≤◌, List, [], ◌∷◌, ◌++◌, length, take, Some, None, Ok, Err, vec_items, Result, Vec, slice_index}
 use Rattle.std.specs.declared.alloc.AllocError.{AllocError}
 use Rattle.std.specs.declared.alloc.Global.{Global}
 use Rattle.session.specs.declared.hex.HexError.{HexError}
@@ -19,9 +19,25 @@ RefusesHex text (NotADigit i) = (bytes_of text ≡ None) × (i ≡ digits_in tex
 RefusesHex text (MissingDigit i) = (bytes_of text ≡ None) × (i ≡ digits_in text) × (i ≡ length text)
 RefusesHex text OutOfMemory = Unit {0}
 
+-- at most two bytes of text are one byte, or are refused
+abbrev pub ReadsByte : List ℕ → Result ℕ HexError → Type 0
+ReadsByte pair (Ok byte) = bytes_of pair ≡ Some (byte ∷ [])
+ReadsByte pair (Err error) = RefusesHex pair error
+
 abbrev pub ReadsHex : List ℕ → Result (Vec ℕ Global) HexError → Type 0
 ReadsHex text (Ok v) = bytes_of text ≡ Some (vec_items v)
 ReadsHex text (Err error) = RefusesHex text error
+
+-- a position that is moved on fits its type
+abbrev pub FitsBeyond : ℕ → HexError → Type 0
+FitsBeyond margin (NotADigit i) = margin + i < 2 ^ 64
+FitsBeyond margin (MissingDigit i) = margin + i < 2 ^ 64
+FitsBeyond margin OutOfMemory = Unit {0}
+
+abbrev pub moved : ℕ → HexError → HexError
+moved margin (NotADigit i) = NotADigit (margin + i)
+moved margin (MissingDigit i) = MissingDigit (margin + i)
+moved margin OutOfMemory = OutOfMemory
 
 -- the digits of bytes are appended to old, all of them or, where memory fails, those of some first bytes
 abbrev pub WritesHex : List ℕ → List ℕ → List ℕ → Result (Unit {0}) AllocError → Type 0

@@ -1,22 +1,17 @@
 -- What the reader of lines answers.
-use Rattle.std.specs.Prelude.{◌≡◌, ℕ, ◌+◌, ◌^◌, ◌<◌, true, false, List, length, Some, None, Ok, Err, vec_items, Result}
+use Rattle.std.specs.Prelude.{◌≡◌, ℕ, ◌+◌, ◌<◌, true, false, List, length, Some, None, Ok, Err, vec_items, Option, Result, Vec}
 use Rattle.session.specs.declared.hex.HexError.{HexError}
 use Rattle.session.specs.declared.hex.HexError.TheVariants.{NotADigit, MissingDigit, OutOfMemory}
-use Rattle.session.specs.declared.lines.Line.{Line}
-use Rattle.session.specs.declared.lines.Line.TheVariants.{Skip, Command}
+use Rattle.std.specs.declared.alloc.Global.{Global}
 use Rattle.session.specs.Hex.{digits_in}
-use Rattle.session.specs.Lines.{margin_of, body, skipped, command_of}
+use Rattle.session.specs.HexResults.{RefusesHex}
+use Rattle.session.specs.Lines.{margin_of, body, skipped, dash, command_of}
 
--- a position that is moved on fits its type
-abbrev pub FitsBeyond : ℕ → HexError → Type 0
-FitsBeyond margin (NotADigit i) = margin + i < 2 ^ 64
-FitsBeyond margin (MissingDigit i) = margin + i < 2 ^ 64
-FitsBeyond margin OutOfMemory = Unit {0}
-
-abbrev pub moved : ℕ → HexError → HexError
-moved margin (NotADigit i) = NotADigit (margin + i)
-moved margin (MissingDigit i) = MissingDigit (margin + i)
-moved margin OutOfMemory = OutOfMemory
+-- what is between the blanks of a line says nothing, a command, or is refused
+abbrev pub ReadsBody : List ℕ → Result (Option (Vec ℕ Global)) HexError → Type 0
+ReadsBody cs (Ok None) = skipped cs ≡ true
+ReadsBody cs (Ok (Some v)) = (skipped cs ≡ false) × (command_of cs ≡ Some (vec_items v))
+ReadsBody cs (Err error) = (skipped cs ≡ false) × (dash cs ≡ false) × RefusesHex cs error
 
 abbrev pub NoCommand : List ℕ → Type 0
 NoCommand line = (skipped (body line) ≡ false) × (command_of (body line) ≡ None)
@@ -27,7 +22,7 @@ RefusesLine line (NotADigit i) = NoCommand line × (i ≡ margin_of line + digit
 RefusesLine line (MissingDigit i) = NoCommand line × (i ≡ margin_of line + length (body line)) × (digits_in (body line) ≡ length (body line))
 RefusesLine line OutOfMemory = Unit {0}
 
-abbrev pub ReadsLine : List ℕ → Result Line HexError → Type 0
-ReadsLine line (Ok Skip) = skipped (body line) ≡ true
-ReadsLine line (Ok (Command v)) = (skipped (body line) ≡ false) × (command_of (body line) ≡ Some (vec_items v))
+abbrev pub ReadsLine : List ℕ → Result (Option (Vec ℕ Global)) HexError → Type 0
+ReadsLine line (Ok None) = skipped (body line) ≡ true
+ReadsLine line (Ok (Some v)) = (skipped (body line) ≡ false) × (command_of (body line) ≡ Some (vec_items v))
 ReadsLine line (Err error) = RefusesLine line error

@@ -1,14 +1,28 @@
 // What is printed of a machine's answers, a line to each.
-ghost use Rattle.std.specs.Prelude.{◌≡◌, IfOk, string_bytes, OnOk};
-ghost use Rattle.session.specs.Answers.{refused_line, with_ending, with_row};
+ghost use Rattle.std.specs.Prelude.{◌≡◌, OnOk, Some};
+ghost use Rattle.session.specs.Answers.{ending_text, with_ending, with_row};
 
 use crate::hex::write_hex;
-use std::alloc::{AllocError, Global};
+use std::alloc::AllocError;
+use std::fmt;
+use std::io::Write;
 
-#[derive(Clone, Copy)]
+// How a command ends. A `Result` would be no plainer: it could not have the text of its own line.
+#[derive(Clone, Copy, Debug, PartialEq, Eq)]
 pub enum Ending {
     Done,
     Refused(u64),
+}
+
+impl fmt::Display for Ending {
+    ghost output = { λ ending. Some (ending_text ending) };
+
+    fn fmt<W: fmt::Write>(&self, f: &mut fmt::Formatter<W>) -> fmt::Result {
+        match self {
+            Ending::Done => write!(f, "done"),
+            Ending::Refused(reason) => write!(f, "refused {reason}"),
+        }
+    }
 }
 
 // Appends a row's line. Where memory fails, `out` may have a part of it.
@@ -20,21 +34,9 @@ pub fn write_row(out: &mut Vec<u8>, row: &[u8]) -> Result<(), AllocError>
     out.extend_from_slice(b"\n")
 }
 
-fn refusal(heap: Global, reason: u64) -> Result<String, AllocError>
-    ensures { IfOk result (λ line. string_bytes line ≡ refused_line reason) }
-{
-    format!(in heap; "refused {reason}\n")
-}
-
 // Appends the last line of a command, likewise.
-pub fn write_ending(heap: Global, out: &mut Vec<u8>, ending: Ending) -> Result<(), AllocError>
+pub fn write_ending(out: &mut Vec<u8>, ending: Ending) -> Result<(), AllocError>
     ensures { OnOk result (out.new.items ≡ with_ending out.old.items ending) }
 {
-    match ending {
-        Ending::Done => out.extend_from_slice(b"done\n"),
-        Ending::Refused(reason) => {
-            let line = refusal(heap, reason)?;
-            out.extend_from_slice(line.as_bytes())
-        }
-    }
+    writeln!(out, "{ending}").map_err(|_| AllocError)
 }

@@ -1,19 +1,33 @@
 // Bytes as hex digits, two to a byte: written in lower case, read in either.
-ghost use Rattle.std.specs.Prelude.{◌≡◌, ◌+◌, ◌*◌, ◌<◌, ◌++◌, is_ok, if◌then◌else◌};
+ghost use Rattle.std.specs.Prelude.{◌≡◌, ◌<◌, ◌≤◌, ◌++◌, length, is_ok, if◌then◌else◌};
 ghost use Rattle.session.specs.declared.hex.HexError.TheVariants.{OutOfMemory};
 ghost use Rattle.session.specs.Hex.{digit, digit_value, digits, EvenDigits, ReadBack};
-ghost use Rattle.session.specs.HexResults.{DigitAt, ReadsHex, WritesHex};
+ghost use Rattle.session.specs.HexResults.{DigitAt, FitsBeyond, moved, ReadsByte, ReadsHex, WritesHex};
 
 use std::alloc::{AllocError, AllocFailed, Global};
 
 // Why a text is not read. Positions count bytes from 0.
-#[derive(Clone, Copy)]
+#[derive(Clone, Copy, Debug, PartialEq, Eq)]
 pub enum HexError {
     // The byte at this position is the first that is no hex digit.
     NotADigit(usize),
     // All bytes are digits, but the text ends here, between the two of a byte.
     MissingDigit(usize),
     OutOfMemory,
+}
+
+impl HexError {
+    // The same error of a text that begins `margin` bytes further on.
+    pub(crate) fn beyond(self, margin: usize) -> HexError
+        requires { FitsBeyond margin self }
+        ensures { result ≡ moved margin self }
+    {
+        match self {
+            HexError::NotADigit(at) => HexError::NotADigit(margin + at),
+            HexError::MissingDigit(at) => HexError::MissingDigit(margin + at),
+            HexError::OutOfMemory => HexError::OutOfMemory,
+        }
+    }
 }
 
 impl From<AllocError> for HexError {
@@ -36,43 +50,33 @@ fn digit_of(value: u8) -> u8
     requires { value < 16 }
     ensures { result ≡ digit value }
 {
-    if value < 10 {
-        b'0' + value
-    } else {
-        b'a' - 10 + value
-    }
+    char::from_digit(u32::from(value), 16).unwrap() as u8
 }
 
 fn value_of(byte: u8) -> Option<u8>
     ensures { result ≡ digit_value byte }
 {
-    match byte {
-        b'0'..=b'9' => Some(byte - b'0'),
-        b'a'..=b'f' => Some(byte - b'a' + 10),
-        b'A'..=b'F' => Some(byte - b'A' + 10),
-        _ => None,
-    }
+    char::from(byte).to_digit(16).map(|value| value as u8)
 }
 
-fn digit_at(text: &[u8], at: usize) -> Result<u8, HexError>
-    ensures { DigitAt text.now at result }
+fn digit_at(pair: &[u8], at: usize) -> Result<u8, HexError>
+    ensures { DigitAt pair.now at result }
 {
-    if at >= text.len() {
-        return Err(HexError::MissingDigit(at));
-    }
-    match value_of(text[at]) {
-        Some(value) => Ok(value),
-        None => Err(HexError::NotADigit(at)),
-    }
+    let byte = pair.get(at).ok_or(HexError::MissingDigit(at))?;
+    value_of(*byte).ok_or(HexError::NotADigit(at))
 }
 
-fn byte_of(high: u8, low: u8) -> u8
-    requires { (high < 16) × (low < 16) }
-    ensures { result ≡ high * 16 + low }
+fn read_pair(pair: &[u8]) -> Result<u8, HexError>
+    requires some { 0 < length pair.now }
+    requires two { length pair.now ≤ 2 }
+    ensures { ReadsByte pair.now result }
 {
-    16 * high + low
+    let high = digit_at(pair, 0)?;
+    let low = digit_at(pair, 1)?;
+    Ok(16 * high + low)
 }
 
+// By two digits, since `{:02x}` takes ten times as long.
 fn write_byte(out: &mut Vec<u8>, byte: u8) -> Result<(), AllocError>
     ensures { out.new.items ≡ (if is_ok result then out.old.items ++ digits byte else out.old.items) }
 {
@@ -80,6 +84,7 @@ fn write_byte(out: &mut Vec<u8>, byte: u8) -> Result<(), AllocError>
 }
 
 // Appends the digits of `bytes`. Where memory fails, `out` has those of some first bytes.
+#[tactic(auto, using(crate::proofs::Laws::read_back))]
 pub fn write_hex(out: &mut Vec<u8>, bytes: &[u8]) -> Result<(), AllocError>
     ensures written { WritesHex out.old.items bytes.now out.new.items result }
     ensures read_back { ReadBack }
@@ -91,15 +96,15 @@ pub fn write_hex(out: &mut Vec<u8>, bytes: &[u8]) -> Result<(), AllocError>
 }
 
 // A text of an even number of digits is read; any other is refused at its first fault.
+#[tactic(auto, using(crate::proofs::Laws::even_digits))]
 pub fn read_hex(heap: Global, text: &[u8]) -> Result<Vec<u8>, HexError>
     ensures read { ReadsHex text.now result }
     ensures even_digits { EvenDigits }
 {
     let mut bytes = Vec::with_capacity(heap, text.len() / 2)?;
-    for i in 0..text.len().div_ceil(2) {
-        let high = digit_at(text, 2 * i)?;
-        let low = digit_at(text, 2 * i + 1)?;
-        bytes.push(byte_of(high, low))?;
+    for pair in text.chunks(2) {
+        let byte = read_pair(pair).map_err(|error| error.beyond(2 * bytes.len()))?;
+        bytes.push(byte)?;
     }
     Ok(bytes)
 }

@@ -7,4 +7,4 @@ mod lines;
 
 pub use answers::{Ending, write_ending, write_row};
 pub use hex::{HexError, read_hex, write_hex};
-pub use lines::{Line, read_line};
+pub use lines::read_line;

@@ -1,25 +1,14 @@
--- One byte more is blank, or the line ends behind it.
-use Rattle.std.proofs.Common.{◌≡◌, length, take, sym, ap, arith}
-use Rattle.std.specs.List.{suffix_len}
-use Rattle.std.proofs.lemmas.List.{take_all}
-use Rattle.std.proofs.lemmas.List.Sums.{suffix_len-take_yes, suffix_len-take_no}
+-- The blanks at the end are those in front of the line from its back.
+use Rattle.std.proofs.Common.{reverse, take, length, ◌-◌, ap, ◌∙◌, rules, tests}
+use Rattle.std.proofs.lemmas.Iterator.Adapters.{YieldsList-from_rev_slice}
+use Rattle.std.proofs.lemmas.Iterator.Consumers.{count_from_yields_List}
+use Rattle.std.proofs.lemmas.Iterator.Search.{YieldsList-from_take_while}
+use Rattle.std.proofs.lemmas.List.Folds.{length-prefix_len}
 use Rattle.session.specs.Lines.{blank}
 use Rattle.session.proofs.lines.without_trailing_blanks.Goals as goal
-use Rattle.session.proofs.lines.without_trailing_blanks.Goals.{then-loop-end-test+else-is_blank, else-loop-end-test}
-
-pub loop-end-init : goal.loop-end-init
-loop-end-init c = (omega arith, omega (arith, ap (suffix_len blank) (take_all (length c.args.line.now) c.args.line.now (omega arith))))
-
-pub loop-end-preserved : goal.loop-end-preserved
-loop-end-preserved c = (
-  omega arith,
-  omega (arith, suffix_len-take_yes blank c.args.line.now c.loop-end.end 0 (omega arith) (omega arith) (sym c.if-is_blank.ensures)),
-)
 
 pub returns : goal.returns
 returns c =
-    let stops : suffix_len blank (take c.loop-end.end c.args.line.now) ≡ 0 = elim c.loop-end-test.branch [
-      | then-loop-end-test+else-is_blank w ↦ suffix_len-take_no blank c.args.line.now c.loop-end.end 0 (omega arith) (omega arith) (sym w.if-is_blank.ensures)
-      | else-loop-end-test w ↦ let none : c.loop-end.end ≡ 0 = omega arith in ap (λ n. suffix_len blank (take n c.args.line.now)) none
-    ] in
-    ap (λ n. take n c.args.line.now) (omega arith)
+    let line = c.args.line.now in
+    let trailing = count_from_yields_List c.take_while.result c.count-trailing.result c.count-trailing.ensures.ran (YieldsList-from_take_while _ blank (YieldsList-from_rev_slice line (cc)) c.take_while.ensures.closure c.take_while.ensures.done (λ x b q k. search (rules, tests))) ∙ length-prefix_len blank (reverse line) in
+    ap (λ n. take (length line - n) line) trailing
