@@ -5,7 +5,6 @@ ghost use Rattle.session.specs.Answers.{ending_text, with_ending, with_row};
 use crate::hex::write_hex;
 use std::alloc::AllocError;
 use std::fmt;
-use std::io::Write;
 
 // How a command ends. A `Result` would be no plainer: it could not have the text of its own line.
 #[derive(Clone, Copy, Debug, PartialEq, Eq)]
@@ -38,5 +37,6 @@ pub fn write_row(out: &mut Vec<u8>, row: &[u8]) -> Result<(), AllocError>
 pub fn write_ending(out: &mut Vec<u8>, ending: Ending) -> Result<(), AllocError>
     ensures { OnOk result (out.new.items ≡ with_ending out.old.items ending) }
 {
-    writeln!(out, "{ending}").map_err(|_| AllocError)
+    let line = format!(in *out.allocator(); "{ending}\n")?;
+    out.extend_from_slice(line.as_bytes())
 }

@@ -30,6 +30,7 @@ impl HexError {
     }
 }
 
+// By hand, since the contracts below name the error: a derived `From` says nothing of it.
 impl From<AllocError> for HexError {
     ghost from_gives = { λ _ r. r ≡ OutOfMemory };
 

@@ -7,7 +7,7 @@ use Rattle.language.specs.Basics.{each}
 use Rattle.language.specs.Names.{has}
 use Rattle.language.specs.Contents.{name_there, names_from}
 use Rattle.model.specs.Capture.{others}
-use Rattle.wire.specs.Walk.{name_places}
+use Rattle.wire.specs.Walk.{name_places, places_left}
 use Rattle.wire.proofs.WalkFacts.{yields_left, names_placed, places_short}
 use Rattle.scope.proofs.OwnFacts.{Seen, all-unseen, none_other, seen_others}
 use Rattle.scope.proofs.binder.other_own_is.Goals as goal
@@ -24,7 +24,7 @@ returns g c =
     let bs = g.S.Source.bytes c.args.src.now in
     let named = c.in-Some.names in
     any_from_yields_List (Seen (name_there bs) c.args.index c.args.name.now) _ _ c.any.result c.any.ensures.ran
-    (YieldsList-from_enumerate (yields_left (λ s. name_places s.count (g.S.Source.bytes s.src.now) s.at) (λ s. s.src) c.enumerate.result.iter) (cc))
+    (YieldsList-from_enumerate (yields_left (places_left g.S.Source.bytes) (λ s. s.src) c.enumerate.result.iter) (cc))
     (λ k b q h. search (rules, tests))
     ∙ seen_others (name_there bs) c.args.index c.args.name.now 0 _
     ∙ ap (λ xs. has xs c.args.name.now) (all-unseen c.args.index _)
