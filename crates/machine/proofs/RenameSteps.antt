@@ -95,7 +95,8 @@ module _ (m f a b l r n : List ℕ) (is : n ≡ f ++ (a ++ (b ++ (l ++ r)))) (lo
       sym (drop-drop 8192 122896 n) ∙ ap (drop 8192) (sym (drop-drop 40960 frames_at n) ∙ ap (drop 40960) past_build ∙ drop_at b (l ++ r) 40960 frames)
       ∙ drop_at l r 8192 list ∙ behind
 
-  pub area-wiped : wiped n ≡ wiped m
+  pub area-wiped : put_words n build_at (zero_words 57344) ≡ wiped m
+  unfolding wiped
   area-wiped = wiped-same m n area-front area-behind
 
   -- a program that was written, with zeros in frames and list
