@@ -18,7 +18,7 @@ use Rattle.expr.specs.declared.token.Span.{Span}
 use Rattle.expr.specs.Token.{spelled_in}
 use Rattle.model.specs.Capture.{others}
 use Rattle.model.specs.Engine.{done, refused, Step}
-use Rattle.memory.specs.Layout.{memory_words, zero_words, build_at, frames_at, reserve_at, slot, held, put_words, slot_filled, wiped, built}
+use Rattle.memory.specs.Layout.{memory_words, zero_words, build_at, frames_at, list_at, reserve_at, slot, held, put_words, slot_filled, wiped, built}
 use Rattle.memory.proofs.LayoutFacts.{front-held}
 use Rattle.machine.specs.declared.told.Told.{Told}
 use Rattle.machine.specs.declared.told.Told.TheVariants.{Done, No}
@@ -92,10 +92,11 @@ module _ (m f a b l r n : List ℕ) (is : n ≡ f ++ (a ++ (b ++ (l ++ r)))) (lo
 
   pub area-behind : drop reserve_at n ≡ drop reserve_at m
   area-behind =
-      sym (drop-drop 8192 122896 n) ∙ ap (drop 8192) (sym (drop-drop 40960 frames_at n) ∙ ap (drop 40960) past_build ∙ drop_at b (l ++ r) 40960 frames)
+      sym (drop-drop 8192 list_at n) ∙ ap (drop 8192) (sym (drop-drop 40960 frames_at n) ∙ ap (drop 40960) past_build ∙ drop_at b (l ++ r) 40960 frames)
       ∙ drop_at l r 8192 list ∙ behind
 
-  pub area-wiped : wiped n ≡ wiped m
+  pub area-wiped : put_words n build_at (zero_words 57344) ≡ wiped m
+  unfolding wiped
   area-wiped = wiped-same m n area-front area-behind
 
   -- a program that was written, with zeros in frames and list
@@ -147,7 +148,7 @@ chunk o p n s m e =
 
 pub reserve_is : (m a b c r : List ℕ) → a ≡ drop build_at m → b ≡ drop 8192 a → c ≡ drop 40960 b → r ≡ drop 8192 c → r ≡ drop reserve_at m
 reserve_is m a b c r e f g h =
-    h ∙ ap (drop 8192) (g ∙ ap (drop 40960) (f ∙ ap (drop 8192) e ∙ drop-drop 8192 build_at m) ∙ drop-drop 40960 frames_at m) ∙ drop-drop 8192 122896 m
+    h ∙ ap (drop 8192) (g ∙ ap (drop 40960) (f ∙ ap (drop 8192) e ∙ drop-drop 8192 build_at m) ∙ drop-drop 40960 frames_at m) ∙ drop-drop 8192 list_at m
 
 -- the program in the front of a memory is the memory's
 pub front-same : (m f bs : List ℕ) → f ≡ take build_at m → bs ≡ held 0 f → bs ≡ held 0 m

@@ -10,7 +10,7 @@ ghost use Rattle.expr.specs.Token.{spelled_in};
 ghost use Rattle.machine.specs.Renamed.{program_renamed, Written};
 ghost use Rattle.machine.specs.Told.{Tells};
 ghost use Rattle.scope.specs.Binding.{binder_of};
-ghost use Rattle.memory.specs.Layout.{held, build_at, frames_at, put_words, zero_words, wiped};
+ghost use Rattle.memory.specs.Layout.{held, put_words, zero_words};
 
 use crate::history::commit;
 use crate::told::{Refusal, Told, refused};
@@ -24,25 +24,12 @@ use scope::uses::list_uses;
 use wire::field::Target;
 use wire::program::find_function;
 
-// Build area, frames and list are zeros.
-fn wipe(memory: &mut Memory)
-    ensures { memory.new ≡ wiped memory.old }
+// Zeros from one word up to, and without, the other.
+fn clear(memory: &mut Memory, from: usize, to: usize)
+    requires { (from ≤ to) × (to ≤ 262144) }
+    ensures { memory.new ≡ put_words memory.old from (zero_words (to - from)) }
 {
-    memory[BUILD..RESERVE].fill(0);
-}
-
-// Frames and list are zeros.
-fn clear_frames(memory: &mut Memory)
-    ensures { memory.new ≡ put_words memory.old frames_at (zero_words 49152) }
-{
-    memory[FRAMES..RESERVE].fill(0);
-}
-
-// The build area is zeros.
-fn clear_build(memory: &mut Memory)
-    ensures { memory.new ≡ put_words memory.old build_at (zero_words 8192) }
-{
-    memory[BUILD..FRAMES].fill(0);
+    memory[from..to].fill(0);
 }
 
 // What stands in the build area is the current program, and the one before can be gone back to.
@@ -50,9 +37,9 @@ fn accept(memory: &mut Memory, len: usize)
     requires { 8 ≤ len }
     ensures { memory.new ≡ accepted memory.old len }
 {
-    clear_frames(memory);
+    clear(memory, FRAMES, RESERVE);
     commit(memory, len as u64);
-    clear_build(memory);
+    clear(memory, BUILD, FRAMES);
 }
 
 // The program with the new name, in the build area: how many bytes it has.
@@ -89,7 +76,7 @@ fn rename(memory: &mut Memory, binder: Binder, to: &[u8], out: &mut [u8]) -> Tol
             Told::Done
         }
         Err(why) => {
-            wipe(memory);
+            clear(memory, BUILD, RESERVE);
             refused(why)
         }
     }

@@ -27,7 +27,7 @@ held-long k m =
 pub held_short : (m bs : List ℕ) → bs ≡ held 0 m → length bs ≤ 65536
 held_short m bs e = omega (arith, ap length e, held-long 0 m)
 
--- memories with the same header and slots: the same words there, the same programs held, and both fit or neither
+-- memories with the same header and slots: the same words there, and the same programs held
 module _ (m n : List ℕ) (e : take build_at n ≡ take build_at m) where
   pub front_word : (i : ℕ) → i < build_at → get_or n i 0 ≡ get_or m i 0
   front_word i h = sym (get_or-take build_at n i 0 h) ∙ ap (λ l. get_or l i 0) e ∙ get_or-take build_at m i 0 h
@@ -43,10 +43,6 @@ module _ (m n : List ℕ) (e : take build_at n ≡ take build_at m) where
   pub front-held : (k : ℕ) → k < 9 → held k n ≡ held k m
   unfolding held
   front-held k h = ap₂ (λ l ws. take (l + 8) (flat eight ws)) (front_word (2 + k) (omega arith)) (front-part (16 + k * 8192) 8192 (omega arith))
-
-  pub front_fits : length n ≡ length m → memory_fits m ≡ true → memory_fits n ≡ true
-  front_fits long fit =
-      (λ i. eqb (long i) memory_words && ((leb (front_word 0 (omega arith) i) 65537 && leb (front_word 1 (omega arith) i) 8) && lengths_fit (front-part 2 9 (omega arith) i))) ∙ fit
 
 -- what is held is bytes
 flat_bytes : (ws : List ℕ) → all_bytes (flat eight ws) ≡ true

@@ -53,9 +53,6 @@ frames_at = 81936
 abbrev pub list_at : ℕ
 list_at = 122896
 
-abbrev pub listed : List ℕ → ℕ → List ℕ
-listed m n = take n (drop list_at m)
-
 -- THE RESERVE, which nothing uses, begins here
 abbrev pub reserve_at : ℕ
 reserve_at = 131088

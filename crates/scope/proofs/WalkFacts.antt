@@ -1,5 +1,5 @@
 -- Visits of a walk, one by one: what is seen, listed, and comes next. Assumes nothing.
-use Rattle.std.proofs.Common.{◌≡◌, ℕ, zero, suc, ◌+◌, ◌-◌, ◌<◌, ◌≤◌, Bool, List, ◌∷◌, length, Some, None, Option, sym, refl, ap, ◌∙◌, ap₂, arith, le-ltb, lt-ltb}
+use Rattle.std.proofs.Common.{◌≡◌, ℕ, zero, suc, ◌+◌, ◌-◌, ◌<◌, ◌≤◌, Bool, true, false, ltb, List, ◌∷◌, length, Some, None, Option, sym, refl, ap, ◌∙◌, ap₂, arith, le-ltb, lt-ltb}
 use Rattle.expr.specs.Node.{holder_told}
 use Rattle.language.specs.Basics.{pick}
 use Rattle.language.specs.Bytes as bytes
@@ -7,17 +7,29 @@ use Rattle.language.specs.Heads.{arity}
 use Rattle.language.specs.Reading.{found, Token, head_at}
 use Rattle.language.specs.Uses.{Frame, frame, holder, Scope, Walk, walk, use_listed, head_changes, scope_in, part_taken, after_leaf, after_head, uses_from}
 use Rattle.scope.specs.Scopes.{scope_told}
-use Rattle.scope.specs.Frames.{frame_at, frame_put, stacked}
+use Rattle.scope.specs.Frames.{frame_at, frame_put, stacked, next_frame}
 use Rattle.scope.specs.Walks.{walk_in, Sight, sight, sight_of, frame_opened}
 use Rattle.scope.specs.declared.walk.Walk as code
 use Rattle.scope.proofs.FrameFacts.{stacked_more, stacked_count}
 
--- the next part of a frame, which is not the last
-pub part_more : (m n : List ℕ) (t : ℕ) (f : Frame) → length m ≡ 40960 → t < 8192 → f.holder.part + 1 < f.parts →
-    n ≡ frame_put m t (frame (holder f.holder.at (f.holder.part + 1)) f.parts f.around) → stacked n (t + 1) ≡ part_taken f (stacked m t)
-part_more m n t f long few more e =
-    ap₂ stacked e (let z : t + 1 ≡ suc t = omega arith in z) ∙ stacked_more m t (frame (holder f.holder.at (f.holder.part + 1)) f.parts f.around) long few
-    ∙ ap (λ b. pick b (frame (holder f.holder.at (f.holder.part + 1)) f.parts f.around ∷ stacked m t) (stacked m t)) (sym (lt-ltb (f.holder.part + 1) f.parts more))
+-- the next part of a frame is taken, by whether it is the last
+module _ (f : Frame) (fs : List Frame) where
+  abbrev onto : Option Frame → List Frame
+  onto None = fs
+  onto (Some g) = g ∷ fs
+
+  taken : part_taken f fs ≡ onto (next_frame f)
+  taken = go (ltb (f.holder.part + 1) f.parts)
+    where
+      go : (t : Bool) → pick t (frame (holder f.holder.at (f.holder.part + 1)) f.parts f.around ∷ fs) fs ≡ onto (pick t (Some (frame (holder f.holder.at (f.holder.part + 1)) f.parts f.around)) None)
+      go true = refl
+      go false = refl
+
+  pub part_last : None ≡ next_frame f → fs ≡ part_taken f fs
+  part_last e = sym (taken ∙ ap onto (sym e))
+
+  pub part_more : (g : Frame) → Some g ≡ next_frame f → g ∷ fs ≡ part_taken f fs
+  part_more g e = sym (taken ∙ ap onto (sym e))
 
 stacked-next : (m : List ℕ) (t : ℕ) → 0 < t → stacked m t ≡ frame_at m (t - 1) ∷ stacked m (t - 1)
 unfolding stacked

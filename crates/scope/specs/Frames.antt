@@ -1,5 +1,5 @@
 -- Frames of a walk, five words for each. Assumes nothing: these are definitions.
-use Rattle.std.specs.Prelude.{ℕ, zero, suc, ◌+◌, ◌*◌, Bool, not, List, [], ◌∷◌, set, ◌==◌, slice_index, slice_set}
+use Rattle.std.specs.Prelude.{ℕ, zero, suc, ◌+◌, ◌*◌, Bool, not, List, [], ◌∷◌, set, Some, None, Option, ◌==◌, nat_lt, slice_index, slice_set}
 use Rattle.language.specs.Basics.{pick}
 use Rattle.language.specs.Uses.{Frame, frame, holder, scope}
 use Rattle.scope.specs.declared.frames.Frame as code
@@ -32,3 +32,11 @@ frame_put m t f =
 unfoldable pub stacked : List ℕ → ℕ → List Frame
 stacked m zero = []
 stacked m (suc t) = frame_at m t ∷ stacked m t
+
+-- the frame with its next part taken; none where that was the last
+abbrev pub next_frame : Frame → Option Frame
+next_frame f = pick (nat_lt (f.holder.part + 1) f.parts) (Some (frame (holder f.holder.at (f.holder.part + 1)) f.parts f.around)) None
+
+abbrev pub next_told : Option code.Frame → Option Frame
+next_told None = None
+next_told (Some f) = Some (frame_told f)

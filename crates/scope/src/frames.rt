@@ -1,6 +1,6 @@
 // A walk's way back: frames in the machine's memory, one for each node with parts still to come.
 ghost use Rattle.std.specs.Prelude.{◌≡◌, ◌<◌};
-ghost use Rattle.scope.specs.Frames.{frame_told, frame_at, frame_put};
+ghost use Rattle.scope.specs.Frames.{frame_told, frame_at, frame_put, next_told, next_frame};
 
 use crate::renaming::Scope;
 use expr::node::Holder;
@@ -22,6 +22,18 @@ pub struct Frame {
 }
 
 impl Frame {
+    // With the part after its next one to come; none where that was the last.
+    pub fn next(self) -> Option<Frame>
+        ensures { next_told result ≡ next_frame (frame_told self) }
+    {
+        if self.parts.saturating_sub(self.holder.part) <= 1 {
+            return None;
+        }
+        let mut next = self;
+        next.holder.part += 1;
+        Some(next)
+    }
+
     pub fn put(self, frames: &mut Frames, index: usize)
         requires { index < 8192 }
         ensures { frames.new ≡ frame_put frames.old index (frame_told self) }

@@ -2,8 +2,8 @@
 ghost use Rattle.std.specs.Prelude.{◌≡◌, ◌-◌, ◌<◌, ◌≤◌, length, take, Some, IfSome};
 ghost use Rattle.expr.specs.Node.{holder_told};
 ghost use Rattle.expr.specs.Token.{spelled_in, kind_arity};
-ghost use Rattle.language.specs.Uses.{use_listed, part_taken, after_leaf, after_head, uses_from, uses_of};
-ghost use Rattle.scope.specs.Frames.{frame_told, stacked};
+ghost use Rattle.language.specs.Uses.{use_listed, after_leaf, after_head, uses_from, uses_of};
+ghost use Rattle.scope.specs.Frames.{stacked};
 ghost use Rattle.scope.specs.Scopes.{scope_told};
 ghost use Rattle.scope.specs.Walks.{walk_in, walk_told, sight_of, seen_told, count_told, GoesOn, frame_opened, Visits};
 
@@ -58,22 +58,8 @@ fn note_use(list: &mut Slot, uses: usize, at: usize, changes: bool) -> Option<us
     Some(uses + 1)
 }
 
-// How many frames are left once the next part of the frame at `index`, the newest, is taken: the last part takes its frame away.
-fn take_part(frames: &mut Frames, index: usize, frame: Frame) -> usize
-    requires { index < 8192 }
-    ensures value { stacked frames.new result ≡ part_taken (frame_told frame) (stacked frames.old index) }
-    ensures few { result ≤ 8192 }
-{
-    if frame.parts <= frame.holder.part || frame.parts - frame.holder.part == 1 {
-        return index;
-    }
-    let mut next = frame;
-    next.holder.part += 1;
-    next.put(frames, index);
-    index + 1
-}
-
-// The next part of the newest frame comes next; where none is open, the walk is over, and so many uses are listed.
+// The next part of the newest frame comes next, and the last takes its frame away; where none is open, the walk is over, and so many uses are
+// listed.
 fn next_part(frames: &mut Frames, walk: Walk, at: usize) -> ControlFlow<usize, Walk>
     ensures { GoesOn frames.new at walk.uses (λ go us. after_leaf go (stacked frames.old walk.frames) us) (Some result) }
 {
@@ -82,11 +68,16 @@ fn next_part(frames: &mut Frames, walk: Walk, at: usize) -> ControlFlow<usize, W
     }
     let newest = walk.frames - 1;
     let frame = Frame::at(frames, newest);
+    let mut left = newest;
+    if let Some(next) = frame.next() {
+        next.put(frames, newest);
+        left = walk.frames;
+    }
     ControlFlow::Continue(Walk {
         at,
         holder: Some(frame.holder),
         around: frame.around,
-        frames: take_part(frames, newest, frame),
+        frames: left,
         uses: walk.uses,
     })
 }

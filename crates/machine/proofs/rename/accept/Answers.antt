@@ -6,5 +6,5 @@ use Rattle.machine.proofs.rename.accept.Goals as goal
 pub returns : goal.returns
 unfolding accepted
 returns c =
-    c.clear_build.ensures
-    ∙ ap (λ n. put_words n build_at (zero_words 8192)) (c.commit.ensures ∙ ap (λ n. committed n c.args.len) c.clear_frames.ensures)
+    c.clear-2.ensures
+    ∙ ap (λ n. put_words n build_at (zero_words 8192)) (c.commit.ensures ∙ ap (λ n. committed n c.args.len) c.clear.ensures)

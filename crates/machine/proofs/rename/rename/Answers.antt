@@ -42,6 +42,6 @@ returns-in-Err c =
     let long = c.write_new.ensures.long in
     renamed-err m c.args.to.now (binder_of (held 0 m) c.args.binder) c.args.out.now _ _ c.write_new.new.area _
     (written-same m _ same c.args.binder.name c.args.to.now (c.args.binder.name.from - 8) c.args.binder.body _ _ c.in-Err.ensures.written)
-    (c.wipe.ensures
+    (c.clear.ensures
     ∙ area-wiped m _ _ _ _ _ _ refl (omega arith) c.split_at_mut-front.ensures.front (reserve_is m _ _ _ _ c.split_at_mut-front.ensures.back one.back two.back three.back) long.0 long.1 long.2)
     c.refused.ensures
