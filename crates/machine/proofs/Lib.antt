@@ -1,5 +1,6 @@
 pub mod StepFacts
 pub mod AnswerFacts
+pub mod ShortFacts
 pub mod RegionFacts
 pub mod ChangeFacts
 pub mod SizeFacts

@@ -1,5 +1,5 @@
 -- Loading: names that come to numbers, tables and words that are written one after the other, and what a load tells. Assumes nothing.
-use Rattle.std.proofs.Common.{◌≡◌, ℕ, suc, ◌+◌, ◌-◌, ◌*◌, ◌/◌, ◌%◌, ◌<◌, ◌≤◌, Bool, true, false, ◌&&◌, leb, List, [], ◌∷◌, ◌++◌, length, get_or, take, drop, set, Some, None, sym, refl, ap, ◌∙◌, subst, arith, leb-true}
+use Rattle.std.proofs.Common.{◌≡◌, ℕ, suc, ◌+◌, ◌-◌, ◌*◌, ◌/◌, ◌%◌, ◌<◌, ◌≤◌, Bool, true, false, ◌&&◌, leb, List, [], ◌∷◌, ◌++◌, length, get_or, take, drop, set, Some, None, Ok, Err, sym, refl, ap, ◌∙◌, subst, arith, leb-true}
 use borrow.Author.Tests.{clash}
 use Rattle.std.specs.List.{between}
 use Rattle.std.specs.Int.Digits.{number_from_digits}
@@ -14,11 +14,10 @@ use Rattle.language.specs.Table.{hashed, hash, table_from, none_like, all_differ
 use Rattle.language.proofs.ReadingFacts.{number_eight}
 use Rattle.language.proofs.TableFacts.{hashed_more, hashed-end, table_none, table_no_name, table_cut, table_grown, entry_written, table_law}
 use Rattle.model.specs.Engine.{done, refused}
-use Rattle.machine.specs.declared.told.Told.{Told}
-use Rattle.machine.specs.declared.told.Told.TheVariants.{Done, No}
+use Rattle.machine.specs.declared.told.Refusal.TheVariants.{NameTaken}
 use Rattle.machine.specs.History.{loaded}
 use Rattle.machine.specs.Machine.{stepped, table_cleared, load_step}
-use Rattle.machine.specs.Told.{Tells}
+use Rattle.machine.specs.Told.{Told, Tells}
 use Rattle.machine.proofs.StepFacts.{tells_no, tells_done}
 
 pub word_is : (bs : List ℕ) (k : ℕ) → word_of bs k ≡
@@ -117,14 +116,14 @@ module _ (bs : List ℕ) (fit : is_program bs ≡ true) where
 
 -- a load, by whether names differ
 module _ (m bs out m₁ : List ℕ) where
-  pub load-refused : (r : Told) → false ≡ is_fine bs → m₁ ≡ table_cleared m → r ≡ No 4 → Tells (load_step m bs) r out m₁ out
+  pub load-refused : (r : Told) → false ≡ is_fine bs → m₁ ≡ table_cleared m → r ≡ Err NameTaken → Tells (load_step m bs) r out m₁ out
   unfolding load_step
   load-refused r f e n =
       subst (λ t. Tells (pick t (stepped (loaded (table_cleared m) bs) done) (stepped (table_cleared m) (refused 4))) r out m₁ out) f
-      (subst (λ l. Tells (stepped l (refused 4)) r out m₁ out) e (tells_no m₁ out r 4 n))
+      (subst (λ l. Tells (stepped l (refused 4)) r out m₁ out) e (tells_no m₁ out r NameTaken n))
 
-  pub load-done : (c : List ℕ) → true ≡ is_fine bs → c ≡ table_cleared m → m₁ ≡ loaded c bs → Tells (load_step m bs) Done out m₁ out
+  pub load-done : (c : List ℕ) → true ≡ is_fine bs → c ≡ table_cleared m → m₁ ≡ loaded c bs → Tells (load_step m bs) (Ok None) out m₁ out
   unfolding load_step
   load-done c f e n =
-      subst (λ t. Tells (pick t (stepped (loaded (table_cleared m) bs) done) (stepped (table_cleared m) (refused 4))) Done out m₁ out) f
-      (subst (λ l. Tells (stepped l done) Done out m₁ out) (n ∙ ap (λ l. loaded l bs) e) (tells_done m₁ out))
+      subst (λ t. Tells (pick t (stepped (loaded (table_cleared m) bs) done) (stepped (table_cleared m) (refused 4))) (Ok None) out m₁ out) f
+      (subst (λ l. Tells (stepped l done) (Ok None) out m₁ out) (n ∙ ap (λ l. loaded l bs) e) (tells_done m₁ out))

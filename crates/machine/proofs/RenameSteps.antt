@@ -1,5 +1,5 @@
 -- What the steps that rename tell, case by case, and what they leave in build area, frames and list. Assumes nothing.
-use Rattle.std.proofs.Common.{◌≡◌, ℕ, ◌+◌, ◌<◌, ◌≤◌, Bool, true, List, [], ◌∷◌, ◌++◌, length, get_or, take, drop, Some, None, Option, sym, ap, ◌∙◌, subst, ap₂, arith, le-leb}
+use Rattle.std.proofs.Common.{◌≡◌, ℕ, ◌+◌, ◌<◌, ◌≤◌, Bool, true, List, [], ◌∷◌, ◌++◌, length, get_or, take, drop, Some, None, Option, Ok, Err, sym, ap, ◌∙◌, subst, ap₂, arith, le-leb}
 use Rattle.std.specs.List.{between}
 use lib.ListN.{length-replicate}
 use borrow.Author.Tests.{lt-leb}
@@ -23,12 +23,11 @@ use Rattle.memory.specs.Build.{Beside}
 use Rattle.memory.proofs.LayoutFacts.{memory-long, front-held, front_fits}
 use Rattle.scope.specs.Walks.{Kept}
 use Rattle.scope.specs.Splicing.{Replaced}
-use Rattle.machine.specs.declared.told.Told.{Told}
-use Rattle.machine.specs.declared.told.Told.TheVariants.{Done, No}
+use Rattle.machine.specs.declared.told.Refusal.TheVariants.{Captured, TooLarge}
 use Rattle.machine.specs.History.{committed, accepted, changed}
 use Rattle.machine.specs.Machine.{stepped}
 use Rattle.machine.specs.Rename.{with_some, renamed_step, rename_bind_step, rename_param_step}
-use Rattle.machine.specs.Told.{Tells}
+use Rattle.machine.specs.Told.{Told, Tells}
 use Rattle.machine.proofs.RegionFacts.{past_fits}
 use Rattle.machine.proofs.ChangeFacts.{filled_long}
 use Rattle.machine.proofs.StepFacts.{tells_no, tells_done}
@@ -141,22 +140,22 @@ module _ {A : Type 0} (o : Option A) (s : Step) (f : A → Step) (r : Told) (out
 
 -- the renaming itself, by what was listed and whether there is room
 module _ (m : List ℕ) (y : Name) (b : Binder) (out : List ℕ) (r : Told) (n : List ℕ) where
-  pub renamed_captured : None ≡ uses_of (held 0 m) b.name y b.at b.body → n ≡ wiped m → r ≡ No 5 → Tells (renamed_step m y b) r out n out
+  pub renamed_captured : None ≡ uses_of (held 0 m) b.name y b.at b.body → n ≡ wiped m → r ≡ Err Captured → Tells (renamed_step m y b) r out n out
   unfolding renamed_step
-  renamed_captured e w k = by_none _ _ _ r out n out e (subst (λ l. Tells (stepped l (refused 5)) r out n out) w (tells_no n out r 5 k))
+  renamed_captured e w k = by_none _ _ _ r out n out e (subst (λ l. Tells (stepped l (refused 5)) r out n out) w (tells_no n out r Captured k))
 
   module _ (us : List ℕ) (e : Some us ≡ uses_of (held 0 m) b.name y b.at b.body) where
     abbrev new : List ℕ
     new = names_replaced (held 0 m) b.name y us
 
-    pub renamed_large : 65536 < length new → n ≡ wiped m → r ≡ No 7 → Tells (renamed_step m y b) r out n out
+    pub renamed_large : 65536 < length new → n ≡ wiped m → r ≡ Err TooLarge → Tells (renamed_step m y b) r out n out
     unfolding renamed_step
     renamed_large l w k =
         by_some _ _ _ r out n out us e
         (subst (λ t. Tells (pick t (stepped (changed m new) done) (stepped (wiped m) (refused 7))) r out n out) (sym (lt-leb (length new) 65536 l))
-        (subst (λ l. Tells (stepped l (refused 7)) r out n out) w (tells_no n out r 7 k)))
+        (subst (λ l. Tells (stepped l (refused 7)) r out n out) w (tells_no n out r TooLarge k)))
 
-    pub renamed-done : length new ≤ 65536 → n ≡ changed m new → r ≡ Done → Tells (renamed_step m y b) r out n out
+    pub renamed-done : length new ≤ 65536 → n ≡ changed m new → r ≡ Ok None → Tells (renamed_step m y b) r out n out
     unfolding renamed_step
     renamed-done l w k =
         by_some _ _ _ r out n out us e

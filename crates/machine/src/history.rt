@@ -6,7 +6,7 @@ ghost use Rattle.memory.specs.Layout.{memory_words, memory_fits};
 ghost use Rattle.machine.specs.Machine.{undo_step};
 ghost use Rattle.machine.specs.Told.{Tells};
 
-use crate::told::{Refusal, Told, refused};
+use crate::told::{Refusal, Told};
 use expr::look::smaller_of;
 use memory::layout::{
     BUILD, CURRENT, FRAMES, LAST_SLOT, LENGTHS, MAX_OLDER, NEWEST_OLDER, OLDER, SLOTS,
@@ -46,11 +46,11 @@ pub fn undo(memory: &mut [u64], out: &mut [u8]) -> Told
 {
     let older = memory[OLDER];
     if older == 0 {
-        return refused(Refusal::NothingBefore);
+        return Err(Refusal::NothingBefore);
     }
     memory[OLDER] = older - 1;
     move_down(memory);
-    Told::Done
+    Ok(None)
 }
 
 // How many there are to go back to with one more: the ninth falls out.

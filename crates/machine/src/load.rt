@@ -11,7 +11,7 @@ ghost use Rattle.memory.specs.Layout.{memory_words, memory_fits};
 ghost use Rattle.machine.specs.Machine.{table_cleared, load_step};
 ghost use Rattle.machine.specs.Told.{Tells};
 
-use crate::told::{Refusal, Told, refused};
+use crate::told::{Refusal, Told};
 use expr::compare::same_names;
 use expr::skip::skip_function;
 use expr::source::{Source, Text};
@@ -158,8 +158,8 @@ pub fn load(memory: &mut [u64], program: &[u8], out: &mut [u8]) -> Told
     ensures { Tells (load_step memory.old program.now) result out.old memory.new out.new }
 {
     if !names_differ(memory, program) {
-        return refused(Refusal::NameTaken);
+        return Err(Refusal::NameTaken);
     }
     store(memory, program);
-    Told::Done
+    Ok(None)
 }

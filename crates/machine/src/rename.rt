@@ -11,7 +11,7 @@ ghost use Rattle.scope.specs.Binding.{binder_of};
 ghost use Rattle.memory.specs.Layout.{memory_words, memory_fits, held, build_at, frames_at, put_words, zero_words, wiped};
 
 use crate::history::commit;
-use crate::told::{Refusal, Told, refused};
+use crate::told::{Refusal, Told};
 use expr::place::follow;
 use memory::layout::{BUILD, FRAMES, RESERVE, current};
 use scope::binder::{Binder, body_of, let_at, other_own_is, own_name};
@@ -67,14 +67,14 @@ fn rename(memory: &mut [u64], binder: Binder, to: &[u8], out: &mut [u8]) -> Told
     };
     let Some(count) = list_uses(memory, renaming, binder.body) else {
         wipe(memory);
-        return refused(Refusal::Captured);
+        return Err(Refusal::Captured);
     };
     let Some(len) = write_renamed(memory, renaming, count) else {
         wipe(memory);
-        return refused(Refusal::TooLarge);
+        return Err(Refusal::TooLarge);
     };
     accept(memory, len);
-    Told::Done
+    Ok(None)
 }
 
 // The let at the place is called `to`.
@@ -83,18 +83,10 @@ pub fn rename_bind(memory: &mut [u64], at: Target<'_>, to: &[u8], out: &mut [u8]
     ensures { Tells (rename_bind_step memory.old at.entry.function.now at.entry.place.now to.now) result out.old memory.new out.new }
 {
     let program = current(memory);
-    let Some(function) = find_function(&program, at.function) else {
-        return refused(Refusal::Missing);
-    };
-    let Some(body) = body_of(&program, function) else {
-        return refused(Refusal::Missing);
-    };
-    let Some(place) = follow(&program, at.place, body) else {
-        return refused(Refusal::Missing);
-    };
-    let Some(bind) = let_at(&program, place) else {
-        return refused(Refusal::WrongKind);
-    };
+    let function = find_function(&program, at.function).ok_or(Refusal::Missing)?;
+    let body = body_of(&program, function).ok_or(Refusal::Missing)?;
+    let place = follow(&program, at.place, body).ok_or(Refusal::Missing)?;
+    let bind = let_at(&program, place).ok_or(Refusal::WrongKind)?;
     rename(memory, bind, to, out)
 }
 
@@ -110,14 +102,10 @@ pub fn rename_param(
     ensures { Tells (rename_param_step memory.old function.now index to.now) result out.old memory.new out.new }
 {
     let program = current(memory);
-    let Some(at) = find_function(&program, function) else {
-        return refused(Refusal::Missing);
-    };
-    let Some(own) = own_name(&program, at, index) else {
-        return refused(Refusal::Missing);
-    };
+    let at = find_function(&program, function).ok_or(Refusal::Missing)?;
+    let own = own_name(&program, at, index).ok_or(Refusal::Missing)?;
     if other_own_is(&program, at, index, to) {
-        return refused(Refusal::Captured);
+        return Err(Refusal::Captured);
     }
     rename(memory, own, to, out)
 }

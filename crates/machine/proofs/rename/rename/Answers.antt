@@ -15,8 +15,8 @@ wipe-requires c = omega (arith, memory-long c.args.memory.now c.requires.memory)
 pub returns-in_default : goal.returns-in_default
 returns-in_default c =
     let k = c.list_uses.ensures.kept in
-    renamed_captured c.args.memory.now c.args.to.now _ c.args.out.now c.refused.result c.wipe.new.memory c.in_default.ensures.value
-    (c.wipe.ensures ∙ wiped-same c.args.memory.now c.list_uses.new.memory (kept-front c.args.memory.now c.list_uses.new.memory k) k.behind) c.refused.ensures
+    renamed_captured c.args.memory.now c.args.to.now _ c.args.out.now _ c.wipe.new.memory c.in_default.ensures.value
+    (c.wipe.ensures ∙ wiped-same c.args.memory.now c.list_uses.new.memory (kept-front c.args.memory.now c.list_uses.new.memory k) k.behind) refl
 
 pub write_renamed-requires : goal.write_renamed-requires
 write_renamed-requires c =
@@ -36,12 +36,12 @@ returns-in_default-write_renamed c =
     let k = c.list_uses.ensures.kept in
     let w = kept-replaced c.args.memory.now c.list_uses.new.memory k c.args.binder.name c.args.to.now (listed c.list_uses.new.memory c.in-Some.count) None c.write_renamed.new.memory
     c.in_default-write_renamed.ensures.value in
-    renamed_large c.args.memory.now c.args.to.now _ c.args.out.now c.refused-in_default-write_renamed.result c.wipe-in_default-write_renamed.new.memory
+    renamed_large c.args.memory.now c.args.to.now _ c.args.out.now _ c.wipe-in_default-write_renamed.new.memory
     (listed c.list_uses.new.memory c.in-Some.count) c.in-Some.ensures.value w.1
     (c.wipe-in_default-write_renamed.ensures
     ∙ wiped-same c.list_uses.new.memory c.write_renamed.new.memory w.0.front (beside_behind c.list_uses.new.memory c.write_renamed.new.memory w.0)
     ∙ wiped-same c.args.memory.now c.list_uses.new.memory (kept-front c.args.memory.now c.list_uses.new.memory k) k.behind)
-    c.refused-in_default-write_renamed.ensures
+    refl
 
 pub accept-requires : goal.accept-requires
 accept-requires c =
