@@ -1,11 +1,15 @@
 -- Loading: names that come to numbers, tables and words that are written one after the other, and what a load tells. Assumes nothing.
-use Rattle.std.proofs.Common.{◌≡◌, ℕ, suc, ◌+◌, ◌-◌, ◌*◌, ◌/◌, ◌%◌, ◌<◌, ◌≤◌, Bool, true, false, ◌&&◌, leb, List, [], ◌∷◌, ◌++◌, length, get_or, take, drop, set, Some, None, Ok, Err, sym, refl, ap, ◌∙◌, subst, arith, leb-true}
+use Rattle.std.proofs.Common.{◌≡◌, ℕ, suc, ◌+◌, ◌-◌, ◌*◌, ◌/◌, ◌%◌, ◌<◌, ◌≤◌, Bool, true, false, ◌&&◌, leb, List, [], ◌∷◌, ◌++◌, length, get_or, take, drop, set, Some, None, Ok, Err, sym, refl, ap, ap₂, ◌∙◌, subst, arith, leb-true}
 use borrow.Author.Tests.{clash}
 use Rattle.std.specs.List.{between}
 use Rattle.std.specs.Int.Digits.{number_from_digits}
 use Rattle.std.proofs.lemmas.List.Edits.{length-between, get_or-between}
 use Rattle.std.proofs.lemmas.List.{append-nil, length-drop}
 use Rattle.std.proofs.lemmas.Bool.{and_parts}
+use borrow.Rule.Slice.PartMut.{put_mid}
+use lib.ListN.{length-replicate}
+use Rattle.std.proofs.lemmas.Slice.{take-put_mid_below, drop-put_mid}
+use Rattle.memory.specs.Layout.{memory_words, zero_words, frames_at, put_words}
 use Rattle.language.specs.Basics.{pick}
 use Rattle.language.specs.Reading.{number_at, name_end, fun_end, funs_fill, is_program}
 use Rattle.language.specs.Contents.{listed, passed, name_there, owns_differ, names_differ, is_fine}
@@ -113,6 +117,13 @@ module _ (bs : List ℕ) (fit : is_program bs ≡ true) where
       go : (t : Bool) → leb 8 (length bs) ≡ t → funs_fill bs (pick t (Some (number_from_digits 256 (take 8 (drop 0 bs)))) None) ≡ true → 8 ≤ length bs
       go true e h = leb-true _ _ e
       go false e h = absurd (clash h)
+
+-- the table written over the frames, and then made zeros
+pub table_wiped : (m table : List ℕ) → length m ≡ memory_words → length table ≡ 2048 →
+    put_words (put_mid frames_at 2048 m table) frames_at (zero_words 2048) ≡ table_cleared m
+table_wiped m table long full =
+    ap₂ (λ f r. f ++ (zero_words 2048 ++ r)) (take-put_mid_below frames_at 2048 m table frames_at (omega arith) (omega arith))
+    (drop-put_mid frames_at 2048 m table (frames_at + length (zero_words 2048)) (omega (arith, length-replicate {A = ℕ} 2048 0)) (omega arith) full)
 
 -- a load, by whether names differ
 module _ (m bs out m₁ : List ℕ) where

@@ -57,6 +57,11 @@ module _ (out row : List ℕ) (long : 131072 ≤ length out) (front : row ≡ ta
   pub front_told : (s : Step) (r : Told) (m₁ row₁ : List ℕ) → Short s.act → Tells s r row m₁ row₁ → Tells s r out m₁ (row₁ ++ drop 131072 out)
   front_told s r m₁ row₁ short t = record { memory = t.memory; act = act_front s.act r row₁ short t.act }
 
+-- what was lent as arrays is as it was
+pub lent_back : (m l : List ℕ) (kind : ℕ) (text out row : List ℕ) (t : Bool) (r : Told) → l ≡ m → row ++ drop 131072 out ≡ out → StepSays own m kind text out t r m out →
+    StepSays own m kind text out t r l (row ++ drop 131072 out)
+lent_back m l kind text out row t r e f s = subst (λ n. StepSays own m kind text out t r n (row ++ drop 131072 out)) (sym e) (subst (λ o. StepSays own m kind text out t r m o) (sym f) s)
+
 -- what was looked for, by what `ok_or` made of it
 pub met : {A E : Type 0} (o : Option A) (r : Result A E) (a : A) → o ≡ result_ok r → r ≡ Ok a → Some a ≡ o
 met o r a e was = sym (e ∙ ap result_ok was)
@@ -78,6 +83,9 @@ module _ (m : List ℕ) (kind : ℕ) (text out : List ℕ) (r : Told) (no : r �
 
   pub row_unfit : length out < 131072 → StepSays own m kind text out (step_fits own m kind out) r m out
   row_unfit h = unfit (and_right (eqb (length m) (length own.start)) _ (and_right (leb kind 1) (leb 131072 (length out)) (lt-leb 131072 (length out) h)))
+
+  pub memory_short : (length m ≡ memory_words → ⊥) → StepSays own m kind text out (step_fits own m kind out) r m out
+  memory_short h = unfit (and_left (eqb (length m) (length own.start)) _ (ap (eqb (length m)) own-long ∙ ne_eqb (length m) memory_words h))
 
   pub memory_unfit : memory_fits m ≡ false → StepSays own m kind text out (step_fits own m kind out) r m out
   unfolding StepSays own

@@ -4,6 +4,7 @@ ghost use Rattle.memory.specs.Layout.{memory_fits};
 ghost use Rattle.machine.specs.Machine.{show_step, names_step};
 ghost use Rattle.machine.specs.Told.{Tells};
 
+use crate::region::Memory;
 use crate::rows::{Row, copy_row, shown};
 use crate::told::{Refusal, Told};
 use expr::skip::skip_function;
@@ -16,7 +17,7 @@ use wire::program::find_function;
 const NO_MORE: u64 = 65537;
 
 // One row: the function as it is spelled.
-pub fn show(memory: &mut [u64], function: &[u8], out: &mut Row) -> Told
+pub fn show(memory: &mut Memory, function: &[u8], out: &mut Row) -> Told
     requires { memory_fits memory.old ≡ true }
     ensures { Tells (show_step memory.old function.now) result out.old memory.new out.new }
 {
@@ -30,7 +31,7 @@ pub fn show(memory: &mut [u64], function: &[u8], out: &mut Row) -> Told
 }
 
 // The name of the function that begins at `at`, or the end of the answer.
-pub fn show_name(memory: &mut [u64], at: usize, out: &mut Row) -> Told
+pub fn show_name(memory: &mut Memory, at: usize, out: &mut Row) -> Told
     requires { memory_fits memory.old ≡ true }
     ensures { Tells (names_step memory.old at) result out.old memory.new out.new }
 {

@@ -1,20 +1,17 @@
 // Programs that come and go: going back to an older one, and making a new one the current one.
-ghost use Rattle.std.specs.Prelude.{◌≡◌, ◌+◌, ◌≤◌, true, length};
-ghost use Rattle.expr.specs.Look.{smaller};
+ghost use Rattle.std.specs.Prelude.{◌≡◌};
 ghost use Rattle.machine.specs.History.{moved_down, moved_up, placed, committed};
-ghost use Rattle.memory.specs.Layout.{memory_words, memory_fits};
 ghost use Rattle.machine.specs.Machine.{undo_step};
 ghost use Rattle.machine.specs.Told.{Tells};
 
+use crate::region::Memory;
 use crate::told::{Refusal, Told};
-use expr::look::smaller_of;
 use memory::layout::{
     BUILD, CURRENT, FRAMES, LAST_SLOT, LENGTHS, MAX_OLDER, NEWEST_OLDER, OLDER, SLOTS,
 };
 
 // Lengths and slots move down by one: each program is the one before it, and the last stays.
-fn move_down(memory: &mut [u64])
-    requires { length memory.old ≡ memory_words }
+fn move_down(memory: &mut Memory)
     ensures { memory.new ≡ moved_down memory.old }
 {
     memory.copy_within(LENGTHS + 1..LENGTHS + SLOTS, LENGTHS);
@@ -22,8 +19,7 @@ fn move_down(memory: &mut [u64])
 }
 
 // Lengths and slots move up by one: the ninth falls out.
-fn move_up(memory: &mut [u64])
-    requires { length memory.old ≡ memory_words }
+fn move_up(memory: &mut Memory)
     ensures { memory.new ≡ moved_up memory.old }
 {
     memory.copy_within(LENGTHS..LENGTHS + SLOTS - 1, LENGTHS + 1);
@@ -31,17 +27,15 @@ fn move_up(memory: &mut [u64])
 }
 
 // The first `len` bytes of the build area are the current program.
-fn place(memory: &mut [u64], len: u64)
-    requires { (length memory.old ≡ memory_words) × (8 ≤ len) }
+fn place(memory: &mut Memory, len: u64)
     ensures { memory.new ≡ placed memory.old len }
 {
-    memory[LENGTHS] = len - 8;
+    memory[LENGTHS] = len.saturating_sub(8);
     memory.copy_within(BUILD..FRAMES, CURRENT);
 }
 
 // The program before the current one is the current one again.
-pub fn undo(memory: &mut [u64], out: &mut [u8]) -> Told
-    requires { memory_fits memory.old ≡ true }
+pub fn undo(memory: &mut Memory, out: &mut [u8]) -> Told
     ensures { Tells (undo_step memory.old) result out.old memory.new out.new }
 {
     let older = memory[OLDER];
@@ -53,20 +47,11 @@ pub fn undo(memory: &mut [u64], out: &mut [u8]) -> Told
     Ok(None)
 }
 
-// How many there are to go back to with one more: the ninth falls out.
-fn one_more(older: u64) -> u64
-    requires { older ≤ 8 }
-    ensures { result ≡ smaller 8 (older + 1) }
-{
-    smaller_of(MAX_OLDER, older + 1)
-}
-
 // The first `len` bytes of the build area are the current program, and the one before can be gone back to.
-pub fn commit(memory: &mut [u64], len: u64)
-    requires { (memory_fits memory.old ≡ true) × (8 ≤ len) }
+pub fn commit(memory: &mut Memory, len: u64)
     ensures { memory.new ≡ committed memory.old len }
 {
-    memory[OLDER] = one_more(memory[OLDER]);
+    memory[OLDER] = MAX_OLDER.min(memory[OLDER].saturating_add(1));
     move_up(memory);
     place(memory, len);
 }

@@ -7,10 +7,10 @@ ghost use Rattle.language.specs.Reading.{is_program};
 ghost use Rattle.language.specs.Table.{hash, table_from, all_differ};
 ghost use Rattle.machine.specs.Entries.{none_after};
 ghost use Rattle.machine.specs.History.{loaded};
-ghost use Rattle.memory.specs.Layout.{memory_words, memory_fits};
 ghost use Rattle.machine.specs.Machine.{table_cleared, load_step};
 ghost use Rattle.machine.specs.Told.{Tells};
 
+use crate::region::{Memory, clear};
 use crate::told::{Refusal, Told};
 use expr::compare::same_names;
 use expr::skip::skip_function;
@@ -131,20 +131,20 @@ fn is_fine<S: Source>(src: &S, table: &mut [u64]) -> bool
 }
 
 // The same, with the table in the frames, which are zeros afterwards, whatever came out.
-fn names_differ(memory: &mut [u64], program: &[u8]) -> bool
-    requires { (length memory.old ≡ memory_words) × (is_program program.now ≡ true) }
+fn names_differ(memory: &mut Memory, program: &[u8]) -> bool
+    requires { is_program program.now ≡ true }
     ensures value { result ≡ is_fine program.now }
     ensures after { memory.new ≡ table_cleared memory.old }
 {
     let src = Text { bytes: program };
     let fine = is_fine(&src, &mut memory[FRAMES..FRAMES + TABLE_WORDS]);
-    memory[FRAMES..FRAMES + TABLE_WORDS].fill(0);
+    clear(memory, FRAMES..FRAMES + TABLE_WORDS);
     fine
 }
 
 // The program is the current one, and there is nothing to go back to.
-fn store(memory: &mut [u64], program: &[u8])
-    requires { (length memory.old ≡ memory_words) × (is_program program.now ≡ true) }
+fn store(memory: &mut Memory, program: &[u8])
+    requires { is_program program.now ≡ true }
     ensures { memory.new ≡ loaded memory.old program.now }
 {
     pack(&mut memory[CURRENT..NEWEST_OLDER], program);
@@ -153,8 +153,8 @@ fn store(memory: &mut [u64], program: &[u8])
 }
 
 // The program becomes the current one if its names differ.
-pub fn load(memory: &mut [u64], program: &[u8], out: &mut [u8]) -> Told
-    requires { (memory_fits memory.old ≡ true) × (is_program program.now ≡ true) }
+pub fn load(memory: &mut Memory, program: &[u8], out: &mut [u8]) -> Told
+    requires { is_program program.now ≡ true }
     ensures { Tells (load_step memory.old program.now) result out.old memory.new out.new }
 {
     if !names_differ(memory, program) {

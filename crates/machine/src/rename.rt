@@ -8,9 +8,10 @@ ghost use Rattle.machine.specs.History.{accepted};
 ghost use Rattle.machine.specs.Rename.{renamed_step, rename_bind_step, rename_param_step};
 ghost use Rattle.machine.specs.Told.{Tells};
 ghost use Rattle.scope.specs.Binding.{binder_of};
-ghost use Rattle.memory.specs.Layout.{memory_words, memory_fits, held, build_at, frames_at, put_words, zero_words, wiped};
+ghost use Rattle.memory.specs.Layout.{memory_fits, held};
 
 use crate::history::commit;
+use crate::region::{Memory, clear};
 use crate::told::{Refusal, Told};
 use expr::place::follow;
 use memory::layout::{BUILD, FRAMES, RESERVE, current};
@@ -21,42 +22,17 @@ use scope::uses::list_uses;
 use wire::field::Target;
 use wire::program::find_function;
 
-// Build area, frames and list are zeros.
-fn wipe(memory: &mut [u64])
-    requires { length memory.old ≡ memory_words }
-    ensures { memory.new ≡ wiped memory.old }
-{
-    memory[BUILD..RESERVE].fill(0);
-}
-
-// Frames and list are zeros.
-fn clear_frames(memory: &mut [u64])
-    requires { length memory.old ≡ memory_words }
-    ensures { memory.new ≡ put_words memory.old frames_at (zero_words 49152) }
-{
-    memory[FRAMES..RESERVE].fill(0);
-}
-
-// The build area is zeros.
-fn clear_build(memory: &mut [u64])
-    requires { length memory.old ≡ memory_words }
-    ensures { memory.new ≡ put_words memory.old build_at (zero_words 8192) }
-{
-    memory[BUILD..FRAMES].fill(0);
-}
-
 // What stands in the build area is the current program, and the one before can be gone back to.
-fn accept(memory: &mut [u64], len: usize)
-    requires { (memory_fits memory.old ≡ true) × (8 ≤ len) }
+fn accept(memory: &mut Memory, len: usize)
     ensures { memory.new ≡ accepted memory.old len }
 {
-    clear_frames(memory);
+    clear(memory, FRAMES..RESERVE);
     commit(memory, len as u64);
-    clear_build(memory);
+    clear(memory, BUILD..FRAMES);
 }
 
 // What the binder gives is called `to`, and so are its uses: 5 where one would be captured, 7 where the program would be too large.
-fn rename(memory: &mut [u64], binder: Binder, to: &[u8], out: &mut [u8]) -> Told
+fn rename(memory: &mut Memory, binder: Binder, to: &[u8], out: &mut [u8]) -> Told
     requires memory { memory_fits memory.old ≡ true }
     requires lies { (8 ≤ binder.name.from) × ((binder.name.from ≤ binder.name.to) × (binder.name.to ≤ length (held 0 memory.old))) }
     ensures { Tells (renamed_step memory.old to.now (binder_of (held 0 memory.old) binder)) result out.old memory.new out.new }
@@ -66,11 +42,11 @@ fn rename(memory: &mut [u64], binder: Binder, to: &[u8], out: &mut [u8]) -> Told
         to,
     };
     let Some(count) = list_uses(memory, renaming, binder.body) else {
-        wipe(memory);
+        clear(memory, BUILD..RESERVE);
         return Err(Refusal::Captured);
     };
     let Some(len) = write_renamed(memory, renaming, count) else {
-        wipe(memory);
+        clear(memory, BUILD..RESERVE);
         return Err(Refusal::TooLarge);
     };
     accept(memory, len);
@@ -78,7 +54,7 @@ fn rename(memory: &mut [u64], binder: Binder, to: &[u8], out: &mut [u8]) -> Told
 }
 
 // The let at the place is called `to`.
-pub fn rename_bind(memory: &mut [u64], at: Target<'_>, to: &[u8], out: &mut [u8]) -> Told
+pub fn rename_bind(memory: &mut Memory, at: Target<'_>, to: &[u8], out: &mut [u8]) -> Told
     requires { memory_fits memory.old ≡ true }
     ensures { Tells (rename_bind_step memory.old at.entry.function.now at.entry.place.now to.now) result out.old memory.new out.new }
 {
@@ -92,7 +68,7 @@ pub fn rename_bind(memory: &mut [u64], at: Target<'_>, to: &[u8], out: &mut [u8]
 
 // The own name of that number is called `to`.
 pub fn rename_param(
-    memory: &mut [u64],
+    memory: &mut Memory,
     function: &[u8],
     index: u8,
     to: &[u8],

@@ -12,9 +12,10 @@ use crate::answers::{show, show_name};
 use crate::history::undo;
 use crate::load::load;
 pub use crate::rows::ROW_BYTES;
+use crate::region::Memory;
 use crate::rows::Row;
 use crate::told::{Refusal, Told};
-use memory::layout::{MARK, end_answer, memory_fits};
+use memory::layout::{MARK, MEMORY_WORDS, end_answer, memory_fits};
 use wire::request::{Request, read};
 
 // The numbers of the kinds.
@@ -59,7 +60,7 @@ impl TryFrom<u64> for Kind {
 const FIRST_FUNCTION: usize = 8;
 
 // A command that was read.
-fn answer(memory: &mut [u64], request: Request<'_>, out: &mut Row) -> Told
+fn answer(memory: &mut Memory, request: Request<'_>, out: &mut Row) -> Told
     requires { (memory_fits memory.old ≡ true) × (Loadable request) }
     ensures { Tells (ask_step memory.old (request_asks request.entry)) result out.old memory.new out.new }
 {
@@ -80,7 +81,7 @@ fn answer(memory: &mut [u64], request: Request<'_>, out: &mut Row) -> Told
 }
 
 // A command is said: the answer under way ends, whatever becomes of the new one.
-fn obey(memory: &mut [u64], text: &[u8], out: &mut Row) -> Told
+fn obey(memory: &mut Memory, text: &[u8], out: &mut Row) -> Told
     requires { memory_fits memory.old ≡ true }
     ensures { Tells (by_event memory.old (said text.now)) result out.old memory.new out.new }
 {
@@ -90,7 +91,7 @@ fn obey(memory: &mut [u64], text: &[u8], out: &mut Row) -> Told
 }
 
 // The next row of the answer under way, or its end.
-fn go_on(memory: &mut [u64], out: &mut Row) -> Told
+fn go_on(memory: &mut Memory, out: &mut Row) -> Told
     requires { memory_fits memory.old ≡ true }
     ensures { Tells (gone_on memory.old) result out.old memory.new out.new }
 {
@@ -108,6 +109,9 @@ pub fn step(memory: &mut [u64], kind: u64, text: &[u8], out: &mut [u8]) -> Told
 {
     let kind = Kind::try_from(kind)?;
     let Some(row) = out.first_chunk_mut::<ROW_BYTES>() else {
+        return Err(Refusal::Misuse);
+    };
+    let Some(memory) = memory.as_mut_array::<MEMORY_WORDS>() else {
         return Err(Refusal::Misuse);
     };
     if !memory_fits(memory) {

@@ -6,12 +6,9 @@ use Rattle.memory.proofs.AreaFacts.{put_in-part}
 use Rattle.machine.proofs.LoadFacts.{bytes_short, bytes_counted}
 use Rattle.machine.proofs.load.store.Goals as goal
 
-pub overflow_sub-memory : goal.overflow_sub-memory
-overflow_sub-memory c = bytes_counted c.args.program.now c.requires.1
-
 pub returns : goal.returns
 unfolding loaded
 returns c =
     ap (λ m. set (set m 1 0) 2 (length c.args.program.now - 8))
     (put_in-part 16 8192 _ c.args.memory.now (packed c.args.program.now) c.pack.new.words (omega arith)
-    (omega (arith, bytes_short c.args.program.now c.requires.1)) (length_packed_words c.args.program.now) c.pack.ensures)
+    (omega (arith, bytes_short c.args.program.now c.requires)) (length_packed_words c.args.program.now) c.pack.ensures)

@@ -3,20 +3,18 @@ use Rattle.std.proofs.Common.{ltb, length, get_or, Some, None, refl, ap, ◌∙�
 use Rattle.expr.specs.Token.{spelled_in}
 use Rattle.language.specs.Splice.{names_replaced}
 use Rattle.language.proofs.ListFacts.{every_from}
-use Rattle.memory.specs.Layout.{held, listed}
+use Rattle.memory.specs.Layout.{held, listed, wiped}
 use Rattle.memory.proofs.LayoutFacts.{memory-long, front_fits}
 use Rattle.machine.specs.History.{accepted}
 use Rattle.machine.proofs.RenameSteps.{wiped-same, kept-front, kept-held, kept-replaced, renamed_low, beside_behind, accepted-changed, written-fits, renamed_captured, renamed_large, renamed-done}
 use Rattle.machine.proofs.rename.rename.Goals as goal
 
-pub wipe-requires : goal.wipe-requires
-wipe-requires c = omega (arith, memory-long c.args.memory.now c.requires.memory)
-
 pub returns-in_default : goal.returns-in_default
+unfolding wiped
 returns-in_default c =
     let k = c.list_uses.ensures.kept in
-    renamed_captured c.args.memory.now c.args.to.now _ c.args.out.now _ c.wipe.new.memory c.in_default.ensures.value
-    (c.wipe.ensures ∙ wiped-same c.args.memory.now c.list_uses.new.memory (kept-front c.args.memory.now c.list_uses.new.memory k) k.behind) refl
+    renamed_captured c.args.memory.now c.args.to.now _ c.args.out.now _ c.clear.new.memory c.in_default.ensures.value
+    (c.clear.ensures ∙ wiped-same c.args.memory.now c.list_uses.new.memory (kept-front c.args.memory.now c.list_uses.new.memory k) k.behind) refl
 
 pub write_renamed-requires : goal.write_renamed-requires
 write_renamed-requires c =
@@ -28,32 +26,18 @@ write_renamed-requires c =
       count = c.in-Some.ensures.few;
     }
 
-pub wipe-requires-in_default-write_renamed : goal.wipe-requires-in_default-write_renamed
-wipe-requires-in_default-write_renamed c = omega (arith, memory-long c.args.memory.now c.requires.memory)
-
 pub returns-in_default-write_renamed : goal.returns-in_default-write_renamed
+unfolding wiped
 returns-in_default-write_renamed c =
     let k = c.list_uses.ensures.kept in
     let w = kept-replaced c.args.memory.now c.list_uses.new.memory k c.args.binder.name c.args.to.now (listed c.list_uses.new.memory c.in-Some.count) None c.write_renamed.new.memory
     c.in_default-write_renamed.ensures.value in
-    renamed_large c.args.memory.now c.args.to.now _ c.args.out.now _ c.wipe-in_default-write_renamed.new.memory
+    renamed_large c.args.memory.now c.args.to.now _ c.args.out.now _ c.clear-in_default-write_renamed.new.memory
     (listed c.list_uses.new.memory c.in-Some.count) c.in-Some.ensures.value w.1
-    (c.wipe-in_default-write_renamed.ensures
+    (c.clear-in_default-write_renamed.ensures
     ∙ wiped-same c.list_uses.new.memory c.write_renamed.new.memory w.0.front (beside_behind c.list_uses.new.memory c.write_renamed.new.memory w.0)
     ∙ wiped-same c.args.memory.now c.list_uses.new.memory (kept-front c.args.memory.now c.list_uses.new.memory k) k.behind)
     refl
-
-pub accept-requires : goal.accept-requires
-accept-requires c =
-    let k = c.list_uses.ensures.kept in
-    let us = listed c.list_uses.new.memory c.in-Some.count in
-    let w = kept-replaced c.args.memory.now c.list_uses.new.memory k c.args.binder.name c.args.to.now us (Some c.in-Some-write_renamed.len) c.write_renamed.new.memory
-    c.in-Some-write_renamed.ensures.value in (
-      written-fits c.args.memory.now c.list_uses.new.memory c.write_renamed.new.memory
-          (names_replaced (held 0 c.args.memory.now) (spelled_in (held 0 c.args.memory.now) c.args.binder.name) c.args.to.now us) c.requires.memory k
-          (omega (arith, c.in-Some-write_renamed.ensures.short, w.0)) w.1,
-      omega (arith, w.0, renamed_low c.args.memory.now (spelled_in (held 0 c.args.memory.now) c.args.binder.name) c.args.to.now us c.requires.memory),
-    )
 
 pub returns : goal.returns
 returns c =
