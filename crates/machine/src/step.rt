@@ -11,8 +11,8 @@ ghost use Rattle.wire.specs.Request.{request_asks};
 use crate::answers::{show, show_name};
 use crate::history::undo;
 use crate::load::load;
-pub use crate::rows::ROW_BYTES;
 use crate::region::Memory;
+pub use crate::rows::ROW_BYTES;
 use crate::rows::Row;
 use crate::told::{Refusal, Told};
 use memory::layout::{MARK, MEMORY_WORDS, end_answer, memory_fits};
@@ -108,12 +108,10 @@ pub fn step(memory: &mut [u64], kind: u64, text: &[u8], out: &mut [u8]) -> Told
     ensures whole { Whole basics own }
 {
     let kind = Kind::try_from(kind)?;
-    let Some(row) = out.first_chunk_mut::<ROW_BYTES>() else {
-        return Err(Refusal::Misuse);
-    };
-    let Some(memory) = memory.as_mut_array::<MEMORY_WORDS>() else {
-        return Err(Refusal::Misuse);
-    };
+    let row = out.first_chunk_mut::<ROW_BYTES>().ok_or(Refusal::Misuse)?;
+    let memory = memory
+        .as_mut_array::<MEMORY_WORDS>()
+        .ok_or(Refusal::Misuse)?;
     if !memory_fits(memory) {
         return Err(Refusal::Misuse);
     }

@@ -1,4 +1,4 @@
-use Rattle.std.proofs.Common.{ℕ, ◌∙◌, arith}
+use Rattle.std.proofs.Common.{◌∙◌, arith}
 use Rattle.machine.proofs.LoadFacts.{table_wiped}
 use Rattle.machine.proofs.load.names_differ.Goals as goal
 

@@ -4,9 +4,9 @@ use Rattle.expr.specs.Token.{spelled_in}
 use Rattle.language.specs.Splice.{names_replaced}
 use Rattle.language.proofs.ListFacts.{every_from}
 use Rattle.memory.specs.Layout.{held, listed, wiped}
-use Rattle.memory.proofs.LayoutFacts.{memory-long, front_fits}
+use Rattle.memory.proofs.LayoutFacts.{front_fits}
 use Rattle.machine.specs.History.{accepted}
-use Rattle.machine.proofs.RenameSteps.{wiped-same, kept-front, kept-held, kept-replaced, renamed_low, beside_behind, accepted-changed, written-fits, renamed_captured, renamed_large, renamed-done}
+use Rattle.machine.proofs.RenameSteps.{wiped-same, kept-front, kept-held, kept-replaced, beside_behind, accepted-changed, renamed_captured, renamed_large, renamed-done}
 use Rattle.machine.proofs.rename.rename.Goals as goal
 
 pub returns-in_default : goal.returns-in_default

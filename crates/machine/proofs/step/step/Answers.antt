@@ -1,5 +1,5 @@
 -- Each way out is misuse, or what the machine's own step tells. What is lent is the memory, and the front of the row.
-use Rattle.std.proofs.Common.{◌≡◌, ◌≤◌, length, take, sym, subst, ap, ◌∙◌, arith, rules, refl}
+use Rattle.std.proofs.Common.{◌≡◌, ◌≤◌, length, take, sym, subst, ap, ◌∙◌, rules, refl}
 use Rattle.model.specs.Engine.{said}
 use Rattle.memory.specs.Layout.{memory_fits}
 use Rattle.machine.specs.Machine.{gone_on, by_event}
@@ -12,23 +12,23 @@ use Rattle.machine.proofs.step.step.Goals as goal
 pub returns-in_err-kind : goal.returns-in_err-kind
 returns-in_err-kind c = record { says = kind_unfit _ _ _ _ _ (search rules) (search rules); whole = whole }
 
-pub returns-in_default : goal.returns-in_default
-returns-in_default c = record { says = row_unfit _ _ _ _ _ refl (search rules); whole = whole }
+pub returns-in_err-row : goal.returns-in_err-row
+returns-in_err-row c = record { says = row_unfit _ _ _ _ _ (search rules) (search rules); whole = whole }
 
-pub returns-in_default-as_mut_array : goal.returns-in_default-as_mut_array
-returns-in_default-as_mut_array c =
-    let long : 131072 ≤ length c.args.out.now = omega (arith, c.in-Some.ensures) in
-    let front : c.in-Some.row.now ≡ take 131072 c.args.out.now = search rules in
+pub returns-in_err-memory : goal.returns-in_err-memory
+returns-in_err-memory c =
+    let long : 131072 ≤ length c.args.out.now = search rules in
+    let front : c.in_ok-row.row.now ≡ take 131072 c.args.out.now = search rules in
     record {
-      says = lent_back _ _ _ _ _ _ _ _ refl (kept_whole _ _ long front) (memory_short _ _ _ _ _ refl c.in_default-as_mut_array.ensures.cases);
+      says = lent_back _ _ _ _ _ _ _ _ refl (kept_whole _ _ long front) (memory_short _ _ _ _ _ (search rules) (search rules));
       whole = whole;
     }
 
 pub returns-then-not-memory_fits : goal.returns-then-not-memory_fits
 returns-then-not-memory_fits c =
-    let long : 131072 ≤ length c.args.out.now = omega (arith, c.in-Some.ensures) in
-    let front : c.in-Some.row.now ≡ take 131072 c.args.out.now = search rules in
-    let same : c.in-Some-as_mut_array.memory.now ≡ c.args.memory.now = search rules in
+    let long : 131072 ≤ length c.args.out.now = search rules in
+    let front : c.in_ok-row.row.now ≡ take 131072 c.args.out.now = search rules in
+    let same : c.in_ok-memory.memory.now ≡ c.args.memory.now = search rules in
     record {
       says =
           lent_back _ _ _ _ _ _ _ _ same (kept_whole _ _ long front)
@@ -38,25 +38,25 @@ returns-then-not-memory_fits c =
 
 pub returns-in-GoOn : goal.returns-in-GoOn
 returns-in-GoOn c =
-    let long : 131072 ≤ length c.args.out.now = omega (arith, c.in-Some.ensures) in
-    let front : c.in-Some.row.now ≡ take 131072 c.args.out.now = search rules in
-    let same : c.in-Some-as_mut_array.memory.now ≡ c.args.memory.now = search rules in
+    let long : 131072 ≤ length c.args.out.now = search rules in
+    let front : c.in_ok-row.row.now ≡ take 131072 c.args.out.now = search rules in
+    let same : c.in_ok-memory.memory.now ≡ c.args.memory.now = search rules in
     record {
       says =
           next-told _ _ _ _ _ _ _ long (sym (ap memory_fits same) ∙ sym c.if-not-memory_fits.ensures) (search rules)
-          (front_told _ _ long front _ _ _ _ (next_short _) (subst (λ m. Tells (gone_on m) c.go_on.result c.in-Some.row.now c.go_on.new.memory c.go_on.new.out) same c.go_on.ensures));
+          (front_told _ _ long front _ _ _ _ (next_short _) (subst (λ m. Tells (gone_on m) c.go_on.result c.in_ok-row.row.now c.go_on.new.memory c.go_on.new.out) same c.go_on.ensures));
       whole = whole;
     }
 
 pub returns-in-Said : goal.returns-in-Said
 returns-in-Said c =
-    let long : 131072 ≤ length c.args.out.now = omega (arith, c.in-Some.ensures) in
-    let front : c.in-Some.row.now ≡ take 131072 c.args.out.now = search rules in
-    let same : c.in-Some-as_mut_array.memory.now ≡ c.args.memory.now = search rules in
+    let long : 131072 ≤ length c.args.out.now = search rules in
+    let front : c.in_ok-row.row.now ≡ take 131072 c.args.out.now = search rules in
+    let same : c.in_ok-memory.memory.now ≡ c.args.memory.now = search rules in
     record {
       says =
           said-told _ _ _ _ _ _ _ long (sym (ap memory_fits same) ∙ sym c.if-not-memory_fits.ensures) (search rules)
           (front_told _ _ long front _ _ _ _ (said_short _ _)
-          (subst (λ m. Tells (by_event m (said c.args.text.now)) c.obey.result c.in-Some.row.now c.obey.new.memory c.obey.new.out) same c.obey.ensures));
+          (subst (λ m. Tells (by_event m (said c.args.text.now)) c.obey.result c.in_ok-row.row.now c.obey.new.memory c.obey.new.out) same c.obey.ensures));
       whole = whole;
     }
