@@ -10,5 +10,6 @@ pub mod Runs
 pub mod RenameRuns
 pub mod CommandRuns
 pub mod WholeFacts
+pub mod EntryFacts
 pub mod LoadFacts
 pub mod RenameSteps

@@ -4,8 +4,8 @@ ghost use Rattle.expr.specs.Token.{spelled_in};
 ghost use Rattle.language.specs.Contents.{is_fine};
 ghost use Rattle.language.specs.Packed.{words_for, word_of, packed};
 ghost use Rattle.language.specs.Reading.{is_program};
-ghost use Rattle.language.specs.Table.{hash, table_from, all_differ};
-ghost use Rattle.machine.specs.Entries.{none_after};
+ghost use Rattle.language.specs.Table.{hash, table_from, none_like, all_differ};
+ghost use Rattle.machine.specs.Entries.{entries};
 ghost use Rattle.machine.specs.History.{loaded};
 ghost use Rattle.machine.specs.Machine.{table_cleared, load_step};
 ghost use Rattle.machine.specs.Told.{Tells};
@@ -67,36 +67,32 @@ fn hash_span<S: Source>(src: &S, span: Span) -> u64
     sum
 }
 
-// Writes the table of `count` functions, two words for each, and says how many words it has.
-fn fill_table<S: Source>(src: &S, count: usize, table: &mut [u64]) -> usize
-    requires { 2 * count ≤ length table.old }
+// Writes the table of `count` functions, and says how many entries it has.
+fn fill_table<S: Source>(src: &S, count: usize, table: &mut [[u64; 2]]) -> usize
+    requires { count ≤ length table.old }
     ensures within { result ≤ length table.old }
-    ensures value { take result table.new ≡ table_from count (S.bytes src.now) 8 }
+    ensures value { entries (take result table.new) ≡ table_from count (S.bytes src.now) 8 }
 {
     let mut here = 8;
-    for done in 0..count {
+    for (done, entry) in table[..count].iter_mut().enumerate() {
         let Some(to) = skip_name(src, here) else {
-            return 2 * done;
+            return done;
         };
-        table[2 * done] = hash_span(src, Span { from: here + 8, to });
-        table[2 * done + 1] = here as u64;
+        *entry = [hash_span(src, Span { from: here + 8, to }), here as u64];
         let Some(next) = skip_function(src, here) else {
-            return 2 * (done + 1);
+            return done + 1;
         };
         here = next;
     }
-    2 * count
+    count
 }
 
-// No function after the one at `index` has its name.
-fn none_after<S: Source>(src: &S, table: &[u64], index: usize) -> bool
-    requires { 2 * index + 1 < length table.now }
-    ensures { result ≡ none_after (S.bytes src.now) table.now index }
+// None of these functions has the name that stands at `at` and comes to `sum`.
+fn none_like<S: Source>(src: &S, sum: u64, at: usize, table: &[[u64; 2]]) -> bool
+    ensures { result ≡ none_like (S.bytes src.now) sum at (entries table.now) }
 {
-    let sum = table[2 * index];
-    let at = table[2 * index + 1] as usize;
-    for k in index + 1..table.len() / 2 {
-        if table[2 * k] == sum && same_names(src, at, table[2 * k + 1] as usize) {
+    for [other, there] in table {
+        if *other == sum && same_names(src, at, *there as usize) {
             return false;
         }
     }
@@ -104,11 +100,11 @@ fn none_after<S: Source>(src: &S, table: &[u64], index: usize) -> bool
 }
 
 // No two functions of the table have one name.
-fn table_differs<S: Source>(src: &S, table: &[u64]) -> bool
-    ensures { result ≡ all_differ (S.bytes src.now) table.now }
+fn table_differs<S: Source>(src: &S, table: &[[u64; 2]]) -> bool
+    ensures { result ≡ all_differ (S.bytes src.now) (entries table.now) }
 {
-    for k in 0..table.len() / 2 {
-        if !none_after(src, table, k) {
+    for (k, [sum, at]) in table.iter().enumerate() {
+        if !none_like(src, *sum, *at as usize, &table[k + 1..]) {
             return false;
         }
     }
@@ -116,8 +112,8 @@ fn table_differs<S: Source>(src: &S, table: &[u64]) -> bool
 }
 
 // No two functions have one name, and no function has two own names that are one. What the table holds then is no matter.
-fn is_fine<S: Source>(src: &S, table: &mut [u64]) -> bool
-    requires { (is_program (S.bytes src.now) ≡ true) × (2048 ≤ length table.old) }
+fn is_fine<S: Source>(src: &S, table: &mut [[u64; 2]]) -> bool
+    requires { (is_program (S.bytes src.now) ≡ true) × (1024 ≤ length table.old) }
     ensures { result ≡ is_fine (S.bytes src.now) }
 {
     let Some(count) = number(src, 0) else {
@@ -137,7 +133,8 @@ fn names_differ(memory: &mut Memory, program: &[u8]) -> bool
     ensures after { memory.new ≡ table_cleared memory.old }
 {
     let src = Text { bytes: program };
-    let fine = is_fine(&src, &mut memory[FRAMES..FRAMES + TABLE_WORDS]);
+    let (table, _) = memory[FRAMES..FRAMES + TABLE_WORDS].as_chunks_mut::<2>();
+    let fine = is_fine(&src, table);
     clear(memory, FRAMES..FRAMES + TABLE_WORDS);
     fine
 }
