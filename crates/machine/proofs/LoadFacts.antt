@@ -1,10 +1,13 @@
 -- Loading: names that come to numbers, tables and words that are written one after the other, and what a load tells. Assumes nothing.
-use Rattle.std.proofs.Common.{◌≡◌, ℕ, ◌+◌, ◌*◌, ◌%◌, ◌<◌, ◌≤◌, Bool, true, false, ◌&&◌, leb, List, ◌++◌, length, get_or, take, drop, Some, None, Ok, Err, sym, refl, ap, ap₂, ◌∙◌, subst, arith, leb-true}
+use Rattle.std.proofs.Common.{◌≡◌, ℕ, zero, suc, ◌+◌, ◌-◌, ◌*◌, ◌/◌, ◌%◌, ◌<◌, ◌≤◌, Bool, true, false, ◌&&◌, leb, ltb, List, [], ◌∷◌, ◌++◌, length, get_or, take, drop, replicate, Some, None, Ok, Err, sym, refl, ap, ap₂, ◌∙◌, subst, arith, leb-true, ltb-true, ltb-false}
 use borrow.Author.Tests.{clash}
 use Rattle.std.specs.List.{between}
+use Rattle.std.specs.Simd.{first_chunks}
+use Rattle.std.specs.Int.{from_be_bytes}
+use mir.Syntax.{w64}
 use Rattle.std.specs.Int.Digits.{number_from_digits}
 use Rattle.std.proofs.lemmas.List.Edits.{length-between, get_or-between}
-use Rattle.std.proofs.lemmas.List.{length-append, length-take, length-drop}
+use Rattle.std.proofs.lemmas.List.{length-append, length-take, length-drop, drop-drop, get_or-take, get_or-drop, get_or-replicate, get_or_append_left, get_or-append_right, get_or_past}
 use Rattle.std.proofs.lemmas.Bool.{and_parts}
 use borrow.Rule.Slice.PartMut.{put_mid}
 use lib.ListN.{length-replicate}
@@ -24,25 +27,80 @@ use Rattle.machine.specs.Machine.{stepped, table_cleared, load_step}
 use Rattle.machine.specs.Told.{Told, Tells}
 use Rattle.machine.proofs.StepFacts.{tells_no, tells_done}
 
-pub word_is : (bs : List ℕ) (k : ℕ) → word_of bs k ≡
+-- eight bytes after the other
+chunk_is : (n k : ℕ) (xs : List ℕ) → k < n → get_or (first_chunks 8 n xs) k [] ≡ take 8 (drop (k * 8) xs)
+chunk_is zero k xs h = absurd (omega arith)
+chunk_is (suc n) zero xs h = refl
+chunk_is (suc n) (suc k) xs h =
+    chunk_is n k (drop 8 xs) (omega arith) ∙ ap (take 8) (drop-drop (k * 8) 8 xs ∙ ap (λ m. drop m xs) (let z : 8 + k * 8 ≡ suc k * 8 = omega arith in z))
+
+word_is : (bs : List ℕ) (k : ℕ) → word_of bs k ≡
     get_or bs (k * 8) 0 * 72057594037927936 + get_or bs (k * 8 + 1) 0 * 281474976710656 + get_or bs (k * 8 + 2) 0 * 1099511627776 + get_or bs (k * 8 + 3) 0 * 4294967296
     + get_or bs (k * 8 + 4) 0 * 16777216 + get_or bs (k * 8 + 5) 0 * 65536 + get_or bs (k * 8 + 6) 0 * 256 + get_or bs (k * 8 + 7) 0
 unfolding word_of
 word_is bs k = number_eight _ _ _ _ _ _ _ _
 
--- one byte after the other of a name; product and sum wrap
-module _ (bs : List ℕ) (i j k h : ℕ) (end : j ≤ length bs) where
-  pub hash_more : (b : ℕ) → i + k < j → b ≡ get_or bs (i + k) 0 →
-      hashed h (drop k (between i j bs)) ≡ hashed ((h * 1099511628211 % 18446744073709551616 + b) % 18446744073709551616) (drop (k + 1) (between i j bs))
-  hash_more b l e =
-      hashed_more h (between i j bs) k (omega (arith, length-between bs i j end))
-      ∙ ap (λ v. hashed v (drop (k + 1) (between i j bs))) wraps
-    where
-      wraps : (h * 1099511628211 + get_or (between i j bs) k 0) % 18446744073709551616 ≡ (h * 1099511628211 % 18446744073709551616 + b) % 18446744073709551616
-      wraps = omega (arith, get_or-between bs i j k 0 l)
+-- a word by its eight bytes
+pub word_same : (xs bs : List ℕ) (k : ℕ) → ((r : ℕ) → r < 8 → get_or xs r 0 ≡ get_or bs (k * 8 + r) 0) → from_be_bytes w64 xs ≡ word_of bs k
+word_same xs bs k h =
+    omega (
+      arith,
+      word_is bs k,
+      h 0 (omega arith) ∙ ap (λ n. get_or bs n 0) (let z : k * 8 + 0 ≡ k * 8 = omega arith in z),
+      h 1 (omega arith),
+      h 2 (omega arith),
+      h 3 (omega arith),
+      h 4 (omega arith),
+      h 5 (omega arith),
+      h 6 (omega arith),
+      h 7 (omega arith),
+    )
 
-  pub hash-end : j ≤ i + k → hashed h (drop k (between i j bs)) ≡ h
-  hash-end l = hashed-end h (between i j bs) k (omega (arith, length-between bs i j end))
+pub word_whole : (bs : List ℕ) (k : ℕ) → k < length bs / 8 → from_be_bytes w64 (get_or (first_chunks 8 (length bs / 8) bs) k []) ≡ word_of bs k
+word_whole bs k h =
+    word_same (get_or (first_chunks 8 (length bs / 8) bs) k []) bs k
+    (λ r l. ap (λ xs. get_or xs r 0) (chunk_is (length bs / 8) k bs h) ∙ get_or-take 8 (drop (k * 8) bs) r 0 l ∙ get_or-drop (k * 8) bs r 0)
+
+-- fewer than eight bytes, with zeros behind them
+pub word_padded : (bs : List ℕ) → length bs < 8 → from_be_bytes w64 (bs ++ drop (length bs) (replicate 8 0)) ≡ word_of bs 0
+word_padded bs h = word_same (bs ++ drop (length bs) (replicate 8 0)) bs 0 (λ r l. there r l (ltb r (length bs)) refl)
+  where
+    there : (r : ℕ) → r < 8 → (t : Bool) → ltb r (length bs) ≡ t → get_or (bs ++ drop (length bs) (replicate 8 0)) r 0 ≡ get_or bs (0 * 8 + r) 0
+    there r l true e = get_or_append_left bs (drop (length bs) (replicate 8 0)) 0 r (ltb-true _ _ e) ∙ ap (λ n. get_or bs n 0) (let z : r ≡ 0 * 8 + r = omega arith in z)
+    there r l false e =
+        get_or-append_right bs (drop (length bs) (replicate 8 0)) (length bs) r 0 refl (ltb-false _ _ e)
+        ∙ get_or-drop (length bs) (replicate 8 0) (r - length bs) 0 ∙ get_or-replicate 8 (length bs + (r - length bs)) 0 0 (omega (arith, ltb-false _ _ e))
+        ∙ sym (get_or_past bs (0 * 8 + r) 0 (omega (arith, ltb-false _ _ e)))
+
+-- the last word has what is left
+pub word_last : (bs : List ℕ) → word_of (drop (length bs / 8 * 8) bs) 0 ≡ word_of bs (length bs / 8)
+unfolding word_of
+word_last bs =
+    let n = length bs / 8 in
+    ap (number_from_digits 256)
+    (ap₂ ◌∷◌ (get_or-drop (n * 8) bs 0 0 ∙ ap (λ m. get_or bs m 0) (let z : length bs / 8 * 8 + 0 ≡ length bs / 8 * 8 = omega arith in z))
+    (ap₂ ◌∷◌ (get_or-drop (n * 8) bs 1 0)
+    (ap₂ ◌∷◌ (get_or-drop (n * 8) bs 2 0)
+    (ap₂ ◌∷◌ (get_or-drop (n * 8) bs 3 0)
+    (ap₂ ◌∷◌ (get_or-drop (n * 8) bs 4 0)
+    (ap₂ ◌∷◌ (get_or-drop (n * 8) bs 5 0) (ap₂ ◌∷◌ (get_or-drop (n * 8) bs 6 0) (ap (λ b. b ∷ []) (get_or-drop (n * 8) bs 7 0)))))))))
+
+-- one byte after the other of a name; product and sum wrap
+module _ (bs : List ℕ) (i j at h : ℕ) (end : j ≤ length bs) (low : i ≤ at) where
+  pub hash_more : (b : ℕ) → at < j → b ≡ get_or bs at 0 →
+      hashed h (drop (at - i) (between i j bs)) ≡ hashed ((h * 1099511628211 % 18446744073709551616 + b) % 18446744073709551616) (drop (at + 1 - i) (between i j bs))
+  hash_more b l e =
+      hashed_more h (between i j bs) (at - i) (omega (arith, length-between bs i j end))
+      ∙ ap₂ (λ v n. hashed v (drop n (between i j bs))) wraps (let next : at - i + 1 ≡ at + 1 - i = omega arith in next)
+    where
+      read : get_or (between i j bs) (at - i) 0 ≡ b
+      read = get_or-between bs i j (at - i) 0 (omega arith) ∙ ap (λ n. get_or bs n 0) (let there : i + (at - i) ≡ at = omega arith in there) ∙ sym e
+
+      wraps : (h * 1099511628211 + get_or (between i j bs) (at - i) 0) % 18446744073709551616 ≡ (h * 1099511628211 % 18446744073709551616 + b) % 18446744073709551616
+      wraps = omega (arith, read)
+
+  pub hash-end : j ≤ at → hashed h (drop (at - i) (between i j bs)) ≡ h
+  hash-end l = hashed-end h (between i j bs) (at - i) (omega (arith, length-between bs i j end))
 
 -- a program's names differ as its table and the functions' own names say
 module _ (bs : List ℕ) (n : ℕ) (count : Some n ≡ number_at bs 0) (t : List ℕ) (table : t ≡ table_from n bs 8) where

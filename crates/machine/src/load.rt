@@ -25,32 +25,27 @@ const TABLE_WORDS: usize = 2048;
 // Each byte of a name counts so many times the next: a prime, so that few names come to one number.
 const HASH_FACTOR: u64 = 1099511628211;
 
-// The eight bytes from 8 k on as one word, with zeros past the end.
-fn word(text: &[u8], k: usize) -> u64
-    requires { (k < words_for (length text.now)) × (length text.now ≤ 65536) }
-    ensures { result ≡ word_of text.now k }
+// Fewer than eight bytes as one word, with zeros behind them.
+fn last_word(bytes: &[u8]) -> u64
+    requires { length bytes.now < 8 }
+    ensures { result ≡ word_of bytes.now 0 }
 {
-    let src = Text { bytes: text };
-    let at = k * 8;
-    u64::from_be_bytes([
-        src.at(at),
-        src.at(at + 1),
-        src.at(at + 2),
-        src.at(at + 3),
-        src.at(at + 4),
-        src.at(at + 5),
-        src.at(at + 6),
-        src.at(at + 7),
-    ])
+    let mut whole = [0; 8];
+    whole[..bytes.len()].copy_from_slice(bytes);
+    u64::from_be_bytes(whole)
 }
 
 // The bytes eight to a word, at the beginning of the words; the others stay.
 fn pack(words: &mut [u64], text: &[u8])
-    requires { (words_for (length text.now) ≤ length words.old) × (length text.now ≤ 65536) }
+    requires { words_for (length text.now) ≤ length words.old }
     ensures { words.new ≡ packed text.now ++ drop (words_for (length text.now)) words.old }
 {
-    for k in 0..(text.len() + 7) / 8 {
-        words[k] = word(text, k);
+    let (whole, last) = text.as_chunks::<8>();
+    for (k, bytes) in whole.iter().enumerate() {
+        words[k] = u64::from_be_bytes(*bytes);
+    }
+    if !last.is_empty() {
+        words[whole.len()] = last_word(last);
     }
 }
 
@@ -60,9 +55,10 @@ fn hash_span<S: Source>(src: &S, span: Span) -> u64
     ensures { result ≡ hash (spelled_in (S.bytes src.now) span) }
 {
     let mut sum: u64 = 0;
-    for k in 0..span.to - span.from {
-        let byte = src.at(span.from + k);
-        sum = sum.wrapping_mul(HASH_FACTOR).wrapping_add(u64::from(byte));
+    for at in span.from..span.to {
+        sum = sum
+            .wrapping_mul(HASH_FACTOR)
+            .wrapping_add(u64::from(src.at(at)));
     }
     sum
 }

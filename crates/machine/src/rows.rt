@@ -17,8 +17,8 @@ pub fn copy_row<S: Source>(src: &S, span: Span, row: &mut [u8])
     requires room { span.to - span.from ≤ length row.old }
     ensures { row.new ≡ spelled_in (S.bytes src.now) span ++ drop (span.to - span.from) row.old }
 {
-    for k in 0..span.to - span.from {
-        row[k] = src.at(span.from + k);
+    for (k, byte) in row[..span.to - span.from].iter_mut().enumerate() {
+        *byte = src.at(span.from + k);
     }
 }
 
