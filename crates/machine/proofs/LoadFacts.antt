@@ -1,6 +1,5 @@
 -- Loading: names that come to numbers, tables and words that are written one after the other, and what a load tells. Assumes nothing.
 use Rattle.std.proofs.Common.{◌≡◌, ℕ, zero, suc, ◌+◌, ◌-◌, ◌*◌, ◌/◌, ◌%◌, ◌<◌, ◌≤◌, Bool, true, false, ◌&&◌, leb, ltb, List, [], ◌∷◌, ◌++◌, length, get_or, take, drop, replicate, Some, None, Ok, Err, sym, refl, ap, ap₂, ◌∙◌, subst, arith, leb-true, ltb-true, ltb-false}
-use borrow.Author.Tests.{clash}
 use Rattle.std.specs.List.{between}
 use Rattle.std.specs.Simd.{first_chunks}
 use Rattle.std.specs.Int.{from_be_bytes}
@@ -123,13 +122,6 @@ module _ (bs : List ℕ) (fit : is_program bs ≡ true) where
 
   pub bytes_short : length bs ≤ 65536
   bytes_short = leb-true _ _ parts.0
-
-  pub bytes_counted : 8 ≤ length bs
-  bytes_counted = go (leb 8 (length bs)) refl parts.1
-    where
-      go : (t : Bool) → leb 8 (length bs) ≡ t → funs_fill bs (pick t (Some (number_from_digits 256 (take 8 (drop 0 bs)))) None) ≡ true → 8 ≤ length bs
-      go true e h = leb-true _ _ e
-      go false e h = absurd (clash h)
 
 -- the table written over the frames, and then made zeros, in a memory of its length
 module _ (m table l : List ℕ) (long : length m ≡ memory_words) (e : l ≡ put_words (put_mid frames_at 2048 m table) frames_at (zero_words 2048)) (all : length l ≡ memory_words) where

@@ -1,26 +1,23 @@
 -- What the steps that rename tell, case by case, and what they leave in build area, frames and list. Assumes nothing.
-use Rattle.std.proofs.Common.{◌≡◌, ℕ, ◌+◌, ◌<◌, ◌≤◌, Bool, true, List, [], ◌∷◌, ◌++◌, length, get_or, take, drop, Some, None, Option, Ok, Err, sym, ap, ◌∙◌, subst, ap₂, arith, le-leb}
-use Rattle.std.specs.List.{between}
+use Rattle.std.proofs.Common.{◌≡◌, ℕ, ◌+◌, ◌<◌, ◌≤◌, Bool, true, List, ◌++◌, length, take, drop, Some, None, Option, Ok, Err, sym, ap, ◌∙◌, subst, ap₂, arith, le-leb}
 use lib.ListN.{length-replicate}
 use borrow.Author.Tests.{lt-leb}
-use Rattle.std.proofs.lemmas.List.{append_assoc, take_at, drop_at, drop-drop, length-append, length-take, length-take-le, length-drop, take-take}
-use Rattle.language.specs.Basics.{pick, flat}
-use Rattle.language.specs.Bytes.{Name, eight, with_length}
+use Rattle.std.proofs.lemmas.List.{append_assoc, take_at, drop_at, drop-drop, length-append, length-take-le, take-take}
+use Rattle.language.specs.Basics.{pick}
+use Rattle.language.specs.Bytes.{Name}
 use Rattle.language.specs.Binders.{Binder, let_at, own_binder}
 use Rattle.language.specs.Contents.{own_names, find_function, body_of}
 use Rattle.language.specs.Names.{has}
 use Rattle.language.specs.Reading.{place_at}
-use Rattle.language.specs.Splice.{spliced_from, names_replaced}
+use Rattle.language.specs.Splice.{names_replaced}
 use Rattle.language.specs.Uses.{uses_of}
-use Rattle.language.proofs.PackedFacts.{length-packed}
-use Rattle.language.proofs.StandsFacts.{length-eight}
 use Rattle.expr.specs.declared.token.Span.{Span}
 use Rattle.expr.specs.Token.{spelled_in}
 use Rattle.model.specs.Capture.{others}
 use Rattle.model.specs.Engine.{done, refused, Step}
-use Rattle.memory.specs.Layout.{memory_fits, zero_words, build_at, frames_at, reserve_at, slot, held, put_words, slot_filled, wiped, built}
+use Rattle.memory.specs.Layout.{memory_fits, zero_words, build_at, frames_at, reserve_at, held, put_words, slot_filled, wiped, built}
 use Rattle.memory.specs.Build.{Beside}
-use Rattle.memory.proofs.LayoutFacts.{memory-long, front-held, front_fits}
+use Rattle.memory.proofs.LayoutFacts.{memory-long, front-held}
 use Rattle.scope.specs.Walks.{Kept}
 use Rattle.scope.specs.Splicing.{Replaced}
 use Rattle.machine.specs.declared.told.Refusal.TheVariants.{Captured, TooLarge}
@@ -28,13 +25,8 @@ use Rattle.machine.specs.History.{committed, accepted, changed}
 use Rattle.machine.specs.Machine.{stepped}
 use Rattle.machine.specs.Rename.{with_some, renamed_step, rename_bind_step, rename_param_step}
 use Rattle.machine.specs.Told.{Told, Tells}
-use Rattle.machine.proofs.RegionFacts.{past_fits}
 use Rattle.machine.proofs.ChangeFacts.{filled_long}
 use Rattle.machine.proofs.StepFacts.{tells_no, tells_done}
-
-pub frames_cleared_fits : (m n : List ℕ) → memory_fits m ≡ true → n ≡ put_words m frames_at (zero_words 49152) → memory_fits n ≡ true
-frames_cleared_fits m n fit e =
-    ap memory_fits e ∙ past_fits m frames_at (zero_words 49152) (omega arith) (omega (arith, length-replicate {A = ℕ} 49152 0)) fit
 
 -- what is wiped depends on header, slots and reserve only
 pub wiped-same : (m n : List ℕ) → take build_at n ≡ take build_at m → drop reserve_at n ≡ drop reserve_at m → wiped n ≡ wiped m
@@ -56,34 +48,6 @@ kept-held m n k = front-held m n (kept-front m n k) 0 (omega arith)
 pub kept-replaced : (m n : List ℕ) → Kept m n → (s : Span) (y : Name) (us : List ℕ) (r : Option ℕ) (l : List ℕ) →
     Replaced n (names_replaced (held 0 n) (spelled_in (held 0 n) s) y us) r l → Replaced n (names_replaced (held 0 m) (spelled_in (held 0 m) s) y us) r l
 kept-replaced m n k s y us r l t = subst (λ bs. Replaced n (names_replaced bs (spelled_in bs s) y us) r l) (kept-held m n k) t
-
--- a program has at least the eight bytes of its count, and one with a new name no fewer
-held_low : (m : List ℕ) → memory_fits m ≡ true → 8 ≤ length (held 0 m)
-unfolding held
-held_low m fit =
-    omega (
-      arith,
-      length-take (get_or m 2 0 + 8) (flat eight (slot 0 m)),
-      length-packed (slot 0 m),
-      length-take 8192 (drop 16 m),
-      length-drop 16 m,
-      memory-long m fit,
-    )
-
-replaced_low : (bs : List ℕ) (x y : Name) (us : List ℕ) → 8 ≤ length bs → 8 ≤ length (names_replaced bs x y us)
-unfolding spliced_from
-replaced_low bs x y [] h = h
-replaced_low bs x y (k ∷ ks) h =
-    omega (
-      arith,
-      length-append (between 0 k bs) (with_length y ++ spliced_from bs (with_length y) (8 + length x) ks (k + (8 + length x))),
-      length-append (with_length y) (spliced_from bs (with_length y) (8 + length x) ks (k + (8 + length x))),
-      length-append (eight (length y)) y,
-      length-eight (length y),
-    )
-
-pub renamed_low : (m : List ℕ) (x y : Name) (us : List ℕ) → memory_fits m ≡ true → 8 ≤ length (names_replaced (held 0 m) x y us)
-renamed_low m x y us fit = replaced_low (held 0 m) x y us (held_low m fit)
 
 pub beside_behind : (m n : List ℕ) → Beside m n → drop reserve_at n ≡ drop reserve_at m
 beside_behind m n b = sym (drop-drop 49152 frames_at n) ∙ ap (drop 49152) b.behind ∙ drop-drop 49152 frames_at m
@@ -124,11 +88,6 @@ module _ (m n l bs : List ℕ) (fit : memory_fits m ≡ true) (kept : Kept m n) 
   pub accepted-changed : accepted l (length bs) ≡ changed m bs
   unfolding accepted changed
   accepted-changed = ap (λ k. put_words (committed k (length bs)) build_at (zero_words 8192)) cleared_built
-
-  pub written-fits : memory_fits l ≡ true
-  written-fits =
-      ap memory_fits e
-      ∙ past_fits n build_at (slot_filled bs) (omega arith) (omega (arith, filled_long bs short)) (front_fits m n (kept-front m n kept) kept.long fit)
 
 -- a step by what was found
 module _ {A : Type 0} (o : Option A) (s : Step) (f : A → Step) (r : Told) (out n out₁ : List ℕ) where
