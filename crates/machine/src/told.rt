@@ -53,13 +53,12 @@ impl fmt::Display for Refusal {
                 "lengths, kind or header are out of their limits, or there is nothing to go on with",
             Refusal::NotACommand => "these bytes are no command",
             Refusal::NotKnown => "this command is not known yet",
-            Refusal::Missing => "there is no such function, own name or place",
-            Refusal::NameTaken => "a function has that name, or one is called so",
-            Refusal::Captured =>
-                "a use would belong to another binder, or another own name is called so",
-            Refusal::WrongKind => "what is there is not of the kind that is asked for",
-            Refusal::TooLarge => "the program would have more than 65,536 bytes",
-            Refusal::NothingBefore => "there is no older program",
+            Refusal::Missing => "there is no such function, parameter or place",
+            Refusal::NameTaken => "the name is taken",
+            Refusal::Captured => "what the program means would change",
+            Refusal::WrongKind => "what is there is of the wrong kind, or protected",
+            Refusal::TooLarge => "the program would be too large",
+            Refusal::NothingBefore => "there is nothing to go back to",
         })
     }
 }
