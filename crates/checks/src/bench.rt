@@ -1,7 +1,7 @@
 // A machine on the bench: it is lent a memory and a row of any lengths, and what a step did to them is looked at.
 ghost use Rattle.std.specs.Prelude.{◌≡◌, is_ok};
 
-use machine::step::{GO_ON, ROW_BYTES, SAID, step};
+use machine::step::{Kind, ROW_BYTES, step};
 use machine::told::Told;
 use memory::layout::MEMORY_WORDS;
 use std::alloc::{AllocError, Global};
@@ -18,6 +18,22 @@ fn check(holds: bool, otherwise: &str) -> Result<(), Fail>
         return Ok(());
     }
     Err(Fail::new(otherwise))
+}
+
+// The test fails with what was told, unless it is what should be.
+fn check_told(told: Told, expected: Told) -> Result<(), Fail> {
+    if told == expected {
+        return Ok(());
+    }
+    Err(Fail::new(format_args!("told {told:?}, and not {expected:?}")))
+}
+
+// The test fails with what was told, unless it is a refusal with this number.
+fn check_refused(told: Told, number: u64) -> Result<(), Fail> {
+    if told.map_err(u64::from) == Err(number) {
+        return Ok(());
+    }
+    Err(Fail::new(format_args!("told {told:?}, and not refused with {number}")))
 }
 
 #[derive(Drop)]
@@ -57,47 +73,49 @@ impl Bench {
         )
     }
 
+    fn say(&mut self, command: &[u8]) -> Told {
+        self.step(Kind::Said.into(), command)
+    }
+
+    fn go_on(&mut self) -> Told {
+        self.step(Kind::GoOn.into(), &[])
+    }
+
     // The command is done.
     pub fn does(&mut self, command: &[u8]) -> Result<(), Fail> {
-        check(matches!(self.step(SAID, command), Told::Done), "not done")
+        check_told(self.say(command), Ok(None))
     }
 
     // The command is refused with this number.
     pub fn refuses(&mut self, command: &[u8], number: u64) -> Result<(), Fail> {
-        match self.step(SAID, command) {
-            Told::No(reason) => check(reason == number, "refused with another number"),
-            _ => Err(Fail::new("not refused")),
-        }
+        check_refused(self.say(command), number)
     }
 
     // The command's first row is this one.
     pub fn shows(&mut self, command: &[u8], row: &[u8]) -> Result<(), Fail> {
-        let told = self.step(SAID, command);
+        let told = self.say(command);
         self.has_shown(told, row)
     }
 
     // The next row of the answer under way is this one.
     pub fn goes_on_with(&mut self, row: &[u8]) -> Result<(), Fail> {
-        let told = self.step(GO_ON, &[]);
+        let told = self.go_on();
         self.has_shown(told, row)
     }
 
     // The answer under way has no more rows.
     pub fn ends(&mut self) -> Result<(), Fail> {
-        check(matches!(self.step(GO_ON, &[]), Told::Done), "does not end")
+        check_told(self.go_on(), Ok(None))
     }
 
     // No answer is under way.
     pub fn is_idle(&mut self) -> Result<(), Fail> {
-        self.misused(GO_ON, &[])
+        self.misused(Kind::GoOn.into(), &[])
     }
 
     // This row was shown; behind it the lent row is as it was.
     fn has_shown(&mut self, told: Told, row: &[u8]) -> Result<(), Fail> {
-        let Told::Shows(len) = told else {
-            return Err(Fail::new("no row is shown"));
-        };
-        check(len == row.len() as u64, "the row is of another length")?;
+        check_told(told, Ok(Some(row.len() as u64)))?;
         check(
             row.len() <= self.row.len(),
             "the row is longer than the lent one",
@@ -114,10 +132,7 @@ impl Bench {
     pub fn misused(&mut self, kind: u64, text: &[u8]) -> Result<(), Fail> {
         let memory = self.memory.clone()?;
         let row = self.row.clone()?;
-        check(
-            matches!(self.step(kind, text), Told::No(0)),
-            "not refused as misuse",
-        )?;
+        check_refused(self.step(kind, text), 0)?;
         check(self.memory == memory, "a word of the memory is changed")?;
         check(self.row == row, "a byte of the row is changed")
     }

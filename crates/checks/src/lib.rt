@@ -11,3 +11,5 @@ mod commands;
 mod history;
 #[cfg(test)]
 mod misuse;
+#[cfg(test)]
+mod refusals;

@@ -1,5 +1,6 @@
 pub mod StepFacts
 pub mod AnswerFacts
+pub mod ShortFacts
 pub mod RegionFacts
 pub mod ChangeFacts
 pub mod SizeFacts
@@ -9,5 +10,6 @@ pub mod Runs
 pub mod RenameRuns
 pub mod CommandRuns
 pub mod WholeFacts
+pub mod EntryFacts
 pub mod LoadFacts
 pub mod RenameSteps

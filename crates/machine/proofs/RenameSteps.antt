@@ -1,27 +1,22 @@
 -- What the steps that rename tell, case by case, and what they leave in build area, frames and list. Assumes nothing.
-use Rattle.std.proofs.Common.{◌≡◌, ℕ, ◌+◌, ◌<◌, ◌≤◌, Bool, List, [], ◌∷◌, ◌++◌, length, get_or, take, drop, Some, None, Option, sym, refl, ap, ◌∙◌, subst, ap₂, arith, le-leb}
-use Rattle.std.specs.List.{between}
+use Rattle.std.proofs.Common.{◌≡◌, ℕ, ◌+◌, ◌<◌, ◌≤◌, Bool, List, ◌++◌, length, take, drop, Some, None, Option, sym, refl, ap, ◌∙◌, subst, ap₂, arith, le-leb}
 use lib.ListN.{length-replicate}
 use borrow.Author.Tests.{lt-leb}
-use Rattle.std.proofs.lemmas.List.{append_assoc, take_at, drop_at, drop-drop, length-append, length-take, length-take-le, length-drop, take-take}
-use Rattle.language.specs.Basics.{pick, flat}
-use Rattle.language.specs.Bytes.{Name, eight, with_length}
+use Rattle.std.proofs.lemmas.List.{append_assoc, take_at, drop_at, drop-drop, length-append, length-take-le, take-take}
+use Rattle.language.specs.Basics.{pick}
+use Rattle.language.specs.Bytes.{Name}
 use Rattle.language.specs.Binders.{Binder, let_at, own_binder}
 use Rattle.language.specs.Contents.{own_names, find_function, body_of}
 use Rattle.language.specs.Names.{has}
 use Rattle.language.specs.Reading.{place_at}
-use Rattle.language.specs.Splice.{spliced_from, names_replaced}
+use Rattle.language.specs.Splice.{names_replaced}
 use Rattle.language.specs.Uses.{uses_of}
-use Rattle.language.proofs.PackedFacts.{length-packed}
-use Rattle.language.proofs.StandsFacts.{length-eight}
 use Rattle.expr.specs.declared.token.Span.{Span}
 use Rattle.expr.specs.Token.{spelled_in}
 use Rattle.model.specs.Capture.{others}
 use Rattle.model.specs.Engine.{done, refused, Step}
-use Rattle.memory.specs.Layout.{memory_words, zero_words, build_at, frames_at, list_at, reserve_at, slot, held, put_words, slot_filled, wiped, built}
+use Rattle.memory.specs.Layout.{memory_words, zero_words, build_at, frames_at, list_at, reserve_at, held, put_words, slot_filled, wiped, built}
 use Rattle.memory.proofs.LayoutFacts.{front-held}
-use Rattle.machine.specs.declared.told.Told.{Told}
-use Rattle.machine.specs.declared.told.Told.TheVariants.{Done, No}
 use Rattle.machine.specs.History.{committed, accepted, changed}
 use Rattle.machine.specs.Machine.{stepped}
 use Rattle.machine.specs.Rename.{with_some, renamed_step, rename_bind_step, rename_param_step}
@@ -33,8 +28,8 @@ use Rattle.std.specs.Borrow.{MutBor}
 use Rattle.scope.specs.Splicing.{Replaced}
 use Rattle.machine.specs.Renamed.{with_names, program_renamed, Written}
 use Rattle.machine.specs.declared.told.Refusal.{Refusal}
-use Rattle.machine.specs.declared.told.Refusal.TheVariants.{TooLarge}
-use Rattle.machine.specs.Told.{refusal_number, Tells}
+use Rattle.machine.specs.declared.told.Refusal.TheVariants.{Captured, TooLarge}
+use Rattle.machine.specs.Told.{Told, Tells}
 use Rattle.machine.proofs.StepFacts.{tells_no, tells_done}
 
 -- what is wiped depends on header, slots and reserve only
@@ -46,34 +41,6 @@ wiped-same m n front behind =
   where
     zeros_end : (k : ℕ) → build_at + length (zero_words k) ≡ build_at + k
     zeros_end k = ap (λ j. build_at + j) (length-replicate {A = ℕ} k 0)
-
--- a program has at least the eight bytes of its count, and one with a new name no fewer
-held_low : (m : List ℕ) → length m ≡ memory_words → 8 ≤ length (held 0 m)
-unfolding held
-held_low m long =
-    omega (
-      arith,
-      length-take (get_or m 2 0 + 8) (flat eight (slot 0 m)),
-      length-packed (slot 0 m),
-      length-take 8192 (drop 16 m),
-      length-drop 16 m,
-      long,
-    )
-
-replaced_low : (bs : List ℕ) (x y : Name) (us : List ℕ) → 8 ≤ length bs → 8 ≤ length (names_replaced bs x y us)
-unfolding spliced_from
-replaced_low bs x y [] h = h
-replaced_low bs x y (k ∷ ks) h =
-    omega (
-      arith,
-      length-append (between 0 k bs) (with_length y ++ spliced_from bs (with_length y) (8 + length x) ks (k + (8 + length x))),
-      length-append (with_length y) (spliced_from bs (with_length y) (8 + length x) ks (k + (8 + length x))),
-      length-append (eight (length y)) y,
-      length-eight (length y),
-    )
-
-pub renamed_low : (m : List ℕ) (x y : Name) (us : List ℕ) → length m ≡ memory_words → 8 ≤ length (names_replaced (held 0 m) x y us)
-renamed_low m x y us long = replaced_low (held 0 m) x y us (held_low m long)
 
 -- a memory whose header and slots, and reserve, are another's: build area, frames and list lie between
 module _ (m f a b l r n : List ℕ) (is : n ≡ f ++ (a ++ (b ++ (l ++ r)))) (long : length m ≡ memory_words) (front : f ≡ take build_at m) (behind : r ≡ drop reserve_at m)
@@ -120,11 +87,6 @@ module _ (m f a b l r n : List ℕ) (is : n ≡ f ++ (a ++ (b ++ (l ++ r)))) (lo
   pub area-accepted : (bs : List ℕ) (k : ℕ) → k ≡ length bs → a ≡ slot_filled bs → accepted n k ≡ changed m bs
   area-accepted bs k e filled = ap (accepted n) e ∙ area-changed bs filled
 
--- how much is written at least
-pub written-low : (m : List ℕ) (x y : Name) (o : Option (List ℕ)) (k : ℕ) (a : List ℕ) → length m ≡ memory_words → Written (with_names (held 0 m) x y o) (Ok k) a → 8 ≤ k
-written-low m x y None k a long p = absurd p
-written-low m x y (Some us) k a long p = omega (arith, p.0, renamed_low m x y us long)
-
 -- what was written, by what was listed
 pub written-by : (bs : List ℕ) (x y : Name) (o : Option (List ℕ)) (us : List ℕ) (w : Option ℕ) (r : Result ℕ Refusal) (a : List ℕ) → Some us ≡ o → r ≡ ok_or w TooLarge → Replaced (names_replaced bs x y us) w a →
     IfSome w (λ n. n ≤ 65536) → Written (with_names bs x y o) r a
@@ -168,22 +130,22 @@ module _ {A : Type 0} (o : Option A) (s : Step) (f : A → Step) (r : Told) (out
 
 -- the renaming itself, by what was listed and whether there is room
 module _ (m : List ℕ) (y : Name) (b : Binder) (out : List ℕ) (r : Told) (n : List ℕ) where
-  pub renamed_captured : None ≡ uses_of (held 0 m) b.name y b.at b.body → n ≡ wiped m → r ≡ No 5 → Tells (renamed_step m y b) r out n out
+  pub renamed_captured : None ≡ uses_of (held 0 m) b.name y b.at b.body → n ≡ wiped m → r ≡ Err Captured → Tells (renamed_step m y b) r out n out
   unfolding renamed_step
-  renamed_captured e w k = by_none _ _ _ r out n out e (subst (λ l. Tells (stepped l (refused 5)) r out n out) w (tells_no n out r 5 k))
+  renamed_captured e w k = by_none _ _ _ r out n out e (subst (λ l. Tells (stepped l (refused 5)) r out n out) w (tells_no n out r Captured k))
 
   module _ (us : List ℕ) (e : Some us ≡ uses_of (held 0 m) b.name y b.at b.body) where
     abbrev new : List ℕ
     new = names_replaced (held 0 m) b.name y us
 
-    pub renamed_large : 65536 < length new → n ≡ wiped m → r ≡ No 7 → Tells (renamed_step m y b) r out n out
+    pub renamed_large : 65536 < length new → n ≡ wiped m → r ≡ Err TooLarge → Tells (renamed_step m y b) r out n out
     unfolding renamed_step
     renamed_large l w k =
         by_some _ _ _ r out n out us e
         (subst (λ t. Tells (pick t (stepped (changed m new) done) (stepped (wiped m) (refused 7))) r out n out) (sym (lt-leb (length new) 65536 l))
-        (subst (λ l. Tells (stepped l (refused 7)) r out n out) w (tells_no n out r 7 k)))
+        (subst (λ l. Tells (stepped l (refused 7)) r out n out) w (tells_no n out r TooLarge k)))
 
-    pub renamed-done : length new ≤ 65536 → n ≡ changed m new → r ≡ Done → Tells (renamed_step m y b) r out n out
+    pub renamed-done : length new ≤ 65536 → n ≡ changed m new → r ≡ Ok None → Tells (renamed_step m y b) r out n out
     unfolding renamed_step
     renamed-done l w k =
         by_some _ _ _ r out n out us e
@@ -192,14 +154,14 @@ module _ (m : List ℕ) (y : Name) (b : Binder) (out : List ℕ) (r : Told) (n :
 
   -- by what was written of the new program
   module _ (a : List ℕ) where
-    pub renamed-err : (w : Refusal) → Written (program_renamed (held 0 m) b.name y b.at b.body) (Err w) a → n ≡ wiped m → r ≡ No (refusal_number w) → Tells (renamed_step m y b) r out n out
+    pub renamed-err : (w : Refusal) → Written (program_renamed (held 0 m) b.name y b.at b.body) (Err w) a → n ≡ wiped m → r ≡ Err w → Tells (renamed_step m y b) r out n out
     renamed-err w p left told = go (uses_of (held 0 m) b.name y b.at b.body) refl p
       where
         go : (o : Option (List ℕ)) → o ≡ uses_of (held 0 m) b.name y b.at b.body → Written (with_names (held 0 m) b.name y o) (Err w) a → Tells (renamed_step m y b) r out n out
-        go None e q = renamed_captured e left (told ∙ ap (λ v. No (refusal_number v)) q)
-        go (Some us) e q = renamed_large us e q.1 left (told ∙ ap (λ v. No (refusal_number v)) q.0)
+        go None e q = renamed_captured e left (told ∙ ap (λ v. Err v) q)
+        go (Some us) e q = renamed_large us e q.1 left (told ∙ ap (λ v. Err v) q.0)
 
-    pub renamed-ok : (k : ℕ) → Written (program_renamed (held 0 m) b.name y b.at b.body) (Ok k) a → ((bs : List ℕ) → k ≡ length bs → a ≡ slot_filled bs → n ≡ changed m bs) → r ≡ Done →
+    pub renamed-ok : (k : ℕ) → Written (program_renamed (held 0 m) b.name y b.at b.body) (Ok k) a → ((bs : List ℕ) → k ≡ length bs → a ≡ slot_filled bs → n ≡ changed m bs) → r ≡ Ok None →
         Tells (renamed_step m y b) r out n out
     renamed-ok k p left told = go (uses_of (held 0 m) b.name y b.at b.body) refl p
       where

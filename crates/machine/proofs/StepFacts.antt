@@ -1,42 +1,79 @@
 -- What a step tells: misuse changes nothing; otherwise it is the machine's own step. Assumes nothing.
-use Rattle.std.proofs.Common.{◌≡◌, ℕ, ◌-◌, ◌<◌, ◌≤◌, Bool, true, false, eqb, leb, ◌≢◌, List, ◌++◌, length, drop, set, Some, Option, sym, refl, ap, ◌∙◌, subst, arith, eq-eqb, ne_eqb, le-leb}
+use Rattle.std.proofs.Common.{◌≡◌, ℕ, ◌-◌, ◌<◌, ◌≤◌, Bool, true, false, eqb, leb, List, ◌++◌, length, take, drop, set, Some, None, Option, Ok, Err, Result, sym, refl, ap, ◌∙◌, subst, arith, eq-eqb, ne_eqb, le-leb}
 use lib.ListN.{length-replicate}
 use borrow.Author.Tests.{lt-leb}
+use Rattle.std.proofs.lemmas.List.{append_assoc, drop-append-le, take-append-drop, length-take-le}
 use Rattle.std.proofs.lemmas.Bool.{and_parts, and_from, and_left, and_right}
-use Rattle.std.specs.Array.{IsWholeChunk}
-use Rattle.std.specs.Borrow.{MutBor}
-use Rattle.std.specs.Option.{MatchOption}
-use Rattle.std.proofs.lemmas.Option.{MatchOption-at_some}
+use Rattle.std.specs.Result.{result_ok}
 use Rattle.language.specs.Basics.{pick}
 use Rattle.wire.specs.declared.request.Request.{Request}
 use Rattle.wire.specs.declared.request.Request.TheVariants.{Load, Show, Names, RenameBind, RenameParam, RenameFunction, Extract, InlineBind, InlineCall, TurnIf, DropFunction, Undo}
 use Rattle.wire.specs.Request.{request_asks}
 use Rattle.model.proofs.AskedFacts.{asked_program}
 use Rattle.model.specs.Reading.{Ask, asked}
-use Rattle.model.specs.Engine.{said, next, shows, done, refused}
-use Rattle.machine.specs.declared.told.Told.{Told}
-use Rattle.machine.specs.declared.told.Told.TheVariants.{Shows, Done, No}
+use Rattle.model.specs.Engine.{said, next, Act, shows, done, refused, Step}
+use Rattle.machine.specs.declared.told.Refusal.{Refusal}
+use Rattle.machine.specs.declared.told.Refusal.TheVariants.{Misuse}
 use Rattle.memory.specs.Layout.{memory_words, mark, memory_fits}
 use Rattle.machine.specs.Machine.{stepped, ask_step, names_step, gone_on, obeyed, by_event, own}
-use Rattle.machine.specs.Told.{event_of, ActTold, Loadable, Tells, StepSays, step_fits}
+use Rattle.machine.specs.Told.{refusal_number, Told, RefusedWith, event_of, ActTold, Loadable, Tells, StepSays, step_fits}
 
-pub tells_no : (m out : List ℕ) (r : Told) (k : ℕ) → r ≡ No k → Tells (stepped m (refused k)) r out m out
+pub tells_no : (m out : List ℕ) (r : Told) (why : Refusal) → r ≡ Err why → Tells (stepped m (refused (refusal_number why))) r out m out
 unfolding ActTold
-tells_no m out r k e = record { memory = refl; act = (e, refl) }
+tells_no m out r why e = record { memory = refl; act = (subst (RefusedWith (refusal_number why)) (sym e) refl, refl) }
 
-pub tells_done : (m out : List ℕ) → Tells (stepped m done) Done out m out
+pub tells_done : (m out : List ℕ) → Tells (stepped m done) (Ok None) out m out
 unfolding ActTold
 tells_done m out = record { memory = refl; act = (refl, refl) }
 
-pub tells_row : (m out s : List ℕ) (r : Told) (out₁ : List ℕ) → r ≡ Shows (length s) → out₁ ≡ s ++ drop (length s) out → Tells (stepped m (shows s)) r out m out₁
+pub tells_row : (m out s : List ℕ) (r : Told) (out₁ : List ℕ) → r ≡ Ok (Some (length s)) → out₁ ≡ s ++ drop (length s) out → Tells (stepped m (shows s)) r out m out₁
 unfolding ActTold
 tells_row m out s r out₁ e o = record { memory = refl; act = (e, o) }
+
+-- a row that is shown has at most 65,536 bytes
+abbrev pub Short : Act → Type 0
+Short (shows s) = length s ≤ 65536
+Short done = Unit {0}
+Short (refused k) = Unit {0}
+
+-- the row is the front of what is lent; what lies behind it stays
+module _ (out row : List ℕ) (long : 131072 ≤ length out) (front : row ≡ take 131072 out) where
+  pub kept_whole : row ++ drop 131072 out ≡ out
+  kept_whole = ap (λ b. b ++ drop 131072 out) front ∙ take-append-drop 131072 out
+
+  row_long : length row ≡ 131072
+  row_long = ap length front ∙ length-take-le 131072 out long
+
+  act_front : (a : Act) (r : Told) (row₁ : List ℕ) → Short a → ActTold a r row row₁ → ActTold a r out (row₁ ++ drop 131072 out)
+  unfolding ActTold
+  act_front (shows s) r row₁ short t = (
+    t.0,
+    ap (λ b. b ++ drop 131072 out) t.1 ∙ append_assoc s (drop (length s) row) (drop 131072 out)
+        ∙ ap (λ b. s ++ b) (sym (drop-append-le (length s) row (drop 131072 out) (omega (arith, row_long))) ∙ ap (drop (length s)) kept_whole),
+  )
+  act_front done r row₁ short t = (t.0, ap (λ b. b ++ drop 131072 out) t.1 ∙ kept_whole)
+  act_front (refused k) r row₁ short t = (t.0, ap (λ b. b ++ drop 131072 out) t.1 ∙ kept_whole)
+
+  pub front_told : (s : Step) (r : Told) (m₁ row₁ : List ℕ) → Short s.act → Tells s r row m₁ row₁ → Tells s r out m₁ (row₁ ++ drop 131072 out)
+  front_told s r m₁ row₁ short t = record { memory = t.memory; act = act_front s.act r row₁ short t.act }
+
+-- what was lent as arrays is as it was
+pub lent_back : (m l : List ℕ) (kind : ℕ) (text out row : List ℕ) (t : Bool) (r : Told) → l ≡ m → row ++ drop 131072 out ≡ out → StepSays own m kind text out t r m out →
+    StepSays own m kind text out t r l (row ++ drop 131072 out)
+lent_back m l kind text out row t r e f s = subst (λ n. StepSays own m kind text out t r n (row ++ drop 131072 out)) (sym e) (subst (λ o. StepSays own m kind text out t r m o) (sym f) s)
+
+-- what was looked for, by what `ok_or` made of it
+pub met : {A E : Type 0} (o : Option A) (r : Result A E) (a : A) → o ≡ result_ok r → r ≡ Ok a → Some a ≡ o
+met o r a e was = sym (e ∙ ap result_ok was)
+
+pub missed : {A E : Type 0} (o : Option A) (r : Result A E) (why : E) → o ≡ result_ok r → r ≡ Err why → None ≡ o
+missed o r why e was = sym (e ∙ ap result_ok was)
 
 own-long : length own.start ≡ memory_words
 unfolding own
 own-long = length-replicate {A = ℕ} 262144 0
 
-module _ (m : List ℕ) (kind : ℕ) (text out : List ℕ) (r : Told) (no : r ≡ No 0) where
+module _ (m : List ℕ) (kind : ℕ) (text out : List ℕ) (r : Told) (no : r ≡ Err Misuse) where
   unfit : step_fits own m kind out ≡ false → StepSays own m kind text out (step_fits own m kind out) r m out
   unfolding StepSays
   unfit e = subst (λ t. StepSays own m kind text out t r m out) (sym e) (no, refl, refl)
@@ -47,12 +84,15 @@ module _ (m : List ℕ) (kind : ℕ) (text out : List ℕ) (r : Told) (no : r �
   pub row_unfit : length out < 131072 → StepSays own m kind text out (step_fits own m kind out) r m out
   row_unfit h = unfit (and_right (eqb (length m) (length own.start)) _ (and_right (leb kind 1) (leb 131072 (length out)) (lt-leb 131072 (length out) h)))
 
+  pub memory_short : (length m ≡ memory_words → ⊥) → StepSays own m kind text out (step_fits own m kind out) r m out
+  memory_short h = unfit (and_left (eqb (length m) (length own.start)) _ (ap (eqb (length m)) own-long ∙ ne_eqb (length m) memory_words h))
+
   pub memory_unfit : memory_fits m ≡ false → StepSays own m kind text out (step_fits own m kind out) r m out
   unfolding StepSays own
   memory_unfit h = go (step_fits own m kind out)
     where
       go : (t : Bool) → StepSays own m kind text out t r m out
-      go true = subst (λ t. Tells (pick t (by_event m (event_of kind text)) (stepped m (refused 0))) r out m out) (sym h) (tells_no m out r 0 no)
+      go true = subst (λ t. Tells (pick t (by_event m (event_of kind text)) (stepped m (refused 0))) r out m out) (sym h) (tells_no m out r Misuse no)
       go false = (no, refl, refl)
 
 -- where all fits, a step is what the event does
@@ -97,14 +137,10 @@ loadable text (DropFunction f) e = tt
 loadable text Undo e = tt
 
 -- going on
-pub on_none : (m out : List ℕ) (r : Told) → mark m ≡ 0 → r ≡ No 0 → Tells (gone_on m) r out m out
+pub on_none : (m out : List ℕ) (r : Told) → mark m ≡ 0 → r ≡ Err Misuse → Tells (gone_on m) r out m out
 unfolding gone_on
-on_none m out r e n = subst (λ t. Tells (pick t (stepped m (refused 0)) (names_step m (mark m - 1))) r out m out) (sym (eq-eqb (mark m) 0 e)) (tells_no m out r 0 n)
+on_none m out r e n = subst (λ t. Tells (pick t (stepped m (refused 0)) (names_step m (mark m - 1))) r out m out) (sym (eq-eqb (mark m) 0 e)) (tells_no m out r Misuse n)
 
 pub on_next : (m out : List ℕ) (r : Told) (m₁ out₁ : List ℕ) → (mark m ≡ 0 → ⊥) → Tells (names_step m (mark m - 1)) r out m₁ out₁ → Tells (gone_on m) r out m₁ out₁
 unfolding gone_on
 on_next m out r m₁ out₁ e s = subst (λ t. Tells (pick t (stepped m (refused 0)) (names_step m (mark m - 1))) r out m₁ out₁) (sym (ne_eqb (mark m) 0 e)) s
-
--- the whole of a row
-pub whole_row : (o : Option (MutBor (List ℕ))) (p : MutBor (List ℕ)) (n : ℕ) (s : List ℕ) → MatchOption o (length s ≢ n) (λ y. IsWholeChunk s y.now n) → o ≡ Some p → p.now ≡ s
-whole_row o p n s m e = (MatchOption-at_some (length s ≢ n) (λ y. IsWholeChunk s y.now n) p e m).same

@@ -1,12 +1,12 @@
 -- How a step of a machine is told to the world outside. Assumes nothing: these are definitions.
-use Rattle.std.specs.Prelude.{◌≡◌, ℕ, Bool, true, false, ◌&&◌, List, ◌++◌, length, drop, ◌==◌, nat_le}
+use Rattle.std.specs.Prelude.{◌≡◌, ℕ, ◌<◌, Bool, true, false, ◌&&◌, List, ◌++◌, length, drop, Option, Some, None, Result, Ok, Err, ◌==◌, nat_le}
 use Rattle.language.specs.Basics.{pick}
 use Rattle.model.specs.Engine.{Event, said, next, Act, shows, done, refused, Step, Engine}
 use Rattle.language.specs.Reading.{is_program}
 use Rattle.wire.specs.declared.request.Request.{Request}
 use Rattle.wire.specs.declared.request.Request.TheVariants.{Load, Show, Names, RenameBind, RenameParam, RenameFunction, Extract, InlineBind, InlineCall, TurnIf, DropFunction, Undo}
-use Rattle.machine.specs.declared.told.Told.{Told}
-use Rattle.machine.specs.declared.told.Told.TheVariants.{Shows, Done, No}
+use Rattle.machine.specs.declared.step.Kind.{Kind}
+use Rattle.machine.specs.declared.step.Kind.TheVariants.{Said, GoOn}
 use Rattle.machine.specs.declared.told.Refusal.{Refusal}
 use Rattle.machine.specs.declared.told.Refusal.TheVariants.{Misuse, NotACommand, NotKnown, Missing, NameTaken, Captured, WrongKind, TooLarge, NothingBefore}
 
@@ -22,25 +22,43 @@ refusal_number WrongKind = 6
 refusal_number TooLarge = 7
 refusal_number NothingBefore = 9
 
+-- what one step tells: so many bytes of the lent row are shown; or none, and the command is done; or why it is refused
+abbrev pub Told : Type 0
+Told = Result (Option ℕ) Refusal
+
+-- it is refused with this number
+abbrev pub RefusedWith : ℕ → Told → Type 0
+RefusedWith k (Ok o) = ⊥
+RefusedWith k (Err why) = refusal_number why ≡ k
+
+-- the number of each kind, and the kind that a number is read as
+abbrev pub kind_number : Kind → ℕ
+kind_number Said = 0
+kind_number GoOn = 1
+
+abbrev pub KindRead : ℕ → Result Kind Refusal → Type 0
+KindRead n (Ok kind) = kind_number kind ≡ n
+KindRead n (Err why) = (1 < n) × (why ≡ Misuse)
+
 -- kind 0: a command is said; 1: go on
 abbrev pub event_of : ℕ → List ℕ → Event
 event_of k bs = pick (k == 0) (said bs) next
 
 -- an act as it is told, and the lent row after it
 unfoldable pub ActTold : Act → Told → (out out₁ : List ℕ) → Type 0
-ActTold (shows s) r out out₁ = (r ≡ Shows (length s)) × (out₁ ≡ s ++ drop (length s) out)
-ActTold done r out out₁ = (r ≡ Done) × (out₁ ≡ out)
-ActTold (refused k) r out out₁ = (r ≡ No k) × (out₁ ≡ out)
+ActTold (shows s) r out out₁ = (r ≡ Ok (Some (length s))) × (out₁ ≡ s ++ drop (length s) out)
+ActTold done r out out₁ = (r ≡ Ok None) × (out₁ ≡ out)
+ActTold (refused k) r out out₁ = RefusedWith k r × (out₁ ≡ out)
 
 -- a step as it is told, and the memory after it
 pub record Tells (s : Step) (r : Told) (out memory₁ out₁ : List ℕ) : Type 0 where
   pub memory : memory₁ ≡ s.memory
   pub act : ActTold s.act r out out₁
 
--- one step: for memories of the machine's own length and a lent row of 131,072 bytes; for others number 0 is told and nothing is changed
+-- one step: for memories of the machine's own length and a lent row of 131,072 bytes; for others it is misuse, whose number is 0, and nothing is changed
 unfoldable pub StepSays : Engine → (memory : List ℕ) (kind : ℕ) (text out : List ℕ) → Bool → Told → (memory₁ out₁ : List ℕ) → Type 0
 StepSays e memory kind text out true r memory₁ out₁ = Tells (e.step memory (event_of kind text)) r out memory₁ out₁
-StepSays e memory kind text out false r memory₁ out₁ = (r ≡ No 0) × (memory₁ ≡ memory) × (out₁ ≡ out)
+StepSays e memory kind text out false r memory₁ out₁ = (r ≡ Err Misuse) × (memory₁ ≡ memory) × (out₁ ≡ out)
 
 abbrev pub step_fits : Engine → (memory : List ℕ) (kind : ℕ) (out : List ℕ) → Bool
 step_fits e memory kind out = length memory == length e.start && (nat_le kind 1 && nat_le 131072 (length out))

@@ -1,12 +1,10 @@
 // Programs that come and go: going back to an older one, and making a new one the current one.
-ghost use Rattle.std.specs.Prelude.{◌≡◌, ◌+◌, ◌≤◌};
-ghost use Rattle.expr.specs.Look.{smaller};
+ghost use Rattle.std.specs.Prelude.{◌≡◌};
 ghost use Rattle.machine.specs.History.{moved_down, moved_up, placed, committed};
 ghost use Rattle.machine.specs.Machine.{undo_step};
 ghost use Rattle.machine.specs.Told.{Tells};
 
-use crate::told::{Refusal, Told, refused};
-use expr::look::smaller_of;
+use crate::told::{Refusal, Told};
 use memory::layout::{
     BUILD, CURRENT, FRAMES, LAST_SLOT, LENGTHS, MAX_OLDER, Memory, NEWEST_OLDER, OLDER, SLOTS,
 };
@@ -29,10 +27,9 @@ fn move_up(memory: &mut Memory)
 
 // The first `len` bytes of the build area are the current program.
 fn place(memory: &mut Memory, len: u64)
-    requires { 8 ≤ len }
     ensures { memory.new ≡ placed memory.old len }
 {
-    memory[LENGTHS] = len - 8;
+    memory[LENGTHS] = len.saturating_sub(8);
     memory.copy_within(BUILD..FRAMES, CURRENT);
 }
 
@@ -42,26 +39,18 @@ pub fn undo(memory: &mut Memory, out: &mut [u8]) -> Told
 {
     let older = memory[OLDER];
     if older == 0 {
-        return refused(Refusal::NothingBefore);
+        return Err(Refusal::NothingBefore);
     }
     memory[OLDER] = older - 1;
     move_down(memory);
-    Told::Done
-}
-
-// How many there are to go back to with one more: the ninth falls out.
-fn one_more(older: u64) -> u64
-    ensures { result ≡ smaller 8 (older + 1) }
-{
-    smaller_of(MAX_OLDER, older.saturating_add(1))
+    Ok(None)
 }
 
 // The first `len` bytes of the build area are the current program, and the one before can be gone back to.
 pub fn commit(memory: &mut Memory, len: u64)
-    requires { 8 ≤ len }
     ensures { memory.new ≡ committed memory.old len }
 {
-    memory[OLDER] = one_more(memory[OLDER]);
+    memory[OLDER] = MAX_OLDER.min(memory[OLDER].saturating_add(1));
     move_up(memory);
     place(memory, len);
 }

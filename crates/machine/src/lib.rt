@@ -4,6 +4,7 @@
 mod answers;
 mod history;
 mod load;
+mod region;
 mod rename;
 mod rows;
 pub mod step;

@@ -4,13 +4,14 @@ ghost use Rattle.expr.specs.Token.{spelled_in};
 ghost use Rattle.language.specs.Contents.{is_fine};
 ghost use Rattle.language.specs.Packed.{words_for, word_of, packed};
 ghost use Rattle.language.specs.Reading.{is_program};
-ghost use Rattle.language.specs.Table.{hash, table_from, all_differ};
-ghost use Rattle.machine.specs.Entries.{none_after};
+ghost use Rattle.language.specs.Table.{hash, table_from, none_like, all_differ};
+ghost use Rattle.machine.specs.Entries.{entries};
 ghost use Rattle.machine.specs.History.{loaded};
 ghost use Rattle.machine.specs.Machine.{table_cleared, load_step};
 ghost use Rattle.machine.specs.Told.{Tells};
 
-use crate::told::{Refusal, Told, refused};
+use crate::region::clear;
+use crate::told::{Refusal, Told};
 use expr::compare::same_names;
 use expr::skip::skip_function;
 use expr::source::{Source, Text};
@@ -24,32 +25,27 @@ const TABLE_WORDS: usize = 2048;
 // Each byte of a name counts so many times the next: a prime, so that few names come to one number.
 const HASH_FACTOR: u64 = 1099511628211;
 
-// The eight bytes from 8 k on as one word, with zeros past the end.
-fn word(text: &[u8], k: usize) -> u64
-    requires { (k < words_for (length text.now)) × (length text.now ≤ 65536) }
-    ensures { result ≡ word_of text.now k }
+// Fewer than eight bytes as one word, with zeros behind them.
+fn last_word(bytes: &[u8]) -> u64
+    requires { length bytes.now < 8 }
+    ensures { result ≡ word_of bytes.now 0 }
 {
-    let src = Text { bytes: text };
-    let at = k * 8;
-    u64::from_be_bytes([
-        src.at(at),
-        src.at(at + 1),
-        src.at(at + 2),
-        src.at(at + 3),
-        src.at(at + 4),
-        src.at(at + 5),
-        src.at(at + 6),
-        src.at(at + 7),
-    ])
+    let mut whole = [0; 8];
+    whole[..bytes.len()].copy_from_slice(bytes);
+    u64::from_be_bytes(whole)
 }
 
 // The bytes eight to a word, at the beginning of the words; the others stay.
 fn pack(words: &mut [u64], text: &[u8])
-    requires { (words_for (length text.now) ≤ length words.old) × (length text.now ≤ 65536) }
+    requires { words_for (length text.now) ≤ length words.old }
     ensures { words.new ≡ packed text.now ++ drop (words_for (length text.now)) words.old }
 {
-    for k in 0..(text.len() + 7) / 8 {
-        words[k] = word(text, k);
+    let (whole, last) = text.as_chunks::<8>();
+    for (k, bytes) in whole.iter().enumerate() {
+        words[k] = u64::from_be_bytes(*bytes);
+    }
+    if !last.is_empty() {
+        words[whole.len()] = last_word(last);
     }
 }
 
@@ -59,43 +55,40 @@ fn hash_span<S: Source>(src: &S, span: Span) -> u64
     ensures { result ≡ hash (spelled_in (S.bytes src.now) span) }
 {
     let mut sum: u64 = 0;
-    for k in 0..span.to - span.from {
-        let byte = src.at(span.from + k);
-        sum = sum.wrapping_mul(HASH_FACTOR).wrapping_add(u64::from(byte));
+    for at in span.from..span.to {
+        sum = sum
+            .wrapping_mul(HASH_FACTOR)
+            .wrapping_add(u64::from(src.at(at)));
     }
     sum
 }
 
-// Writes the table of `count` functions, two words for each, and says how many words it has.
-fn fill_table<S: Source>(src: &S, count: usize, table: &mut [u64]) -> usize
-    requires { 2 * count ≤ length table.old }
+// Writes the table of `count` functions, and says how many entries it has.
+fn fill_table<S: Source>(src: &S, count: usize, table: &mut [[u64; 2]]) -> usize
+    requires { count ≤ length table.old }
     ensures within { result ≤ length table.old }
-    ensures value { take result table.new ≡ table_from count (S.bytes src.now) 8 }
+    ensures value { entries (take result table.new) ≡ table_from count (S.bytes src.now) 8 }
 {
     let mut here = 8;
-    for done in 0..count {
+    for (done, entry) in table[..count].iter_mut().enumerate() {
         let Some(to) = skip_name(src, here) else {
-            return 2 * done;
+            return done;
         };
-        table[2 * done] = hash_span(src, Span { from: here + 8, to });
-        table[2 * done + 1] = here as u64;
+        *entry = [hash_span(src, Span { from: here + 8, to }), here as u64];
         let Some(next) = skip_function(src, here) else {
-            return 2 * (done + 1);
+            return done + 1;
         };
         here = next;
     }
-    2 * count
+    count
 }
 
-// No function after the one at `index` has its name.
-fn none_after<S: Source>(src: &S, table: &[u64], index: usize) -> bool
-    requires { 2 * index + 1 < length table.now }
-    ensures { result ≡ none_after (S.bytes src.now) table.now index }
+// None of these functions has the name that stands at `at` and comes to `sum`.
+fn none_like<S: Source>(src: &S, sum: u64, at: usize, table: &[[u64; 2]]) -> bool
+    ensures { result ≡ none_like (S.bytes src.now) sum at (entries table.now) }
 {
-    let sum = table[2 * index];
-    let at = table[2 * index + 1] as usize;
-    for k in index + 1..table.len() / 2 {
-        if table[2 * k] == sum && same_names(src, at, table[2 * k + 1] as usize) {
+    for [other, there] in table {
+        if *other == sum && same_names(src, at, *there as usize) {
             return false;
         }
     }
@@ -103,11 +96,11 @@ fn none_after<S: Source>(src: &S, table: &[u64], index: usize) -> bool
 }
 
 // No two functions of the table have one name.
-fn table_differs<S: Source>(src: &S, table: &[u64]) -> bool
-    ensures { result ≡ all_differ (S.bytes src.now) table.now }
+fn table_differs<S: Source>(src: &S, table: &[[u64; 2]]) -> bool
+    ensures { result ≡ all_differ (S.bytes src.now) (entries table.now) }
 {
-    for k in 0..table.len() / 2 {
-        if !none_after(src, table, k) {
+    for (k, [sum, at]) in table.iter().enumerate() {
+        if !none_like(src, *sum, *at as usize, &table[k + 1..]) {
             return false;
         }
     }
@@ -115,8 +108,8 @@ fn table_differs<S: Source>(src: &S, table: &[u64]) -> bool
 }
 
 // No two functions have one name, and no function has two own names that are one. What the table holds then is no matter.
-fn is_fine<S: Source>(src: &S, table: &mut [u64]) -> bool
-    requires { (is_program (S.bytes src.now) ≡ true) × (2048 ≤ length table.old) }
+fn is_fine<S: Source>(src: &S, table: &mut [[u64; 2]]) -> bool
+    requires { (is_program (S.bytes src.now) ≡ true) × (1024 ≤ length table.old) }
     ensures { result ≡ is_fine (S.bytes src.now) }
 {
     let Some(count) = number(src, 0) else {
@@ -136,8 +129,9 @@ fn names_differ(memory: &mut Memory, program: &[u8]) -> bool
     ensures after { memory.new ≡ table_cleared memory.old }
 {
     let src = Text { bytes: program };
-    let fine = is_fine(&src, &mut memory[FRAMES..FRAMES + TABLE_WORDS]);
-    memory[FRAMES..FRAMES + TABLE_WORDS].fill(0);
+    let (table, _) = memory[FRAMES..FRAMES + TABLE_WORDS].as_chunks_mut::<2>();
+    let fine = is_fine(&src, table);
+    clear(memory, FRAMES..FRAMES + TABLE_WORDS);
     fine
 }
 
@@ -157,8 +151,8 @@ pub fn load(memory: &mut Memory, program: &[u8], out: &mut [u8]) -> Told
     ensures { Tells (load_step memory.old program.now) result out.old memory.new out.new }
 {
     if !names_differ(memory, program) {
-        return refused(Refusal::NameTaken);
+        return Err(Refusal::NameTaken);
     }
     store(memory, program);
-    Told::Done
+    Ok(None)
 }

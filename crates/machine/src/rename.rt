@@ -13,7 +13,8 @@ ghost use Rattle.scope.specs.Binding.{binder_of};
 ghost use Rattle.memory.specs.Layout.{held, put_words, zero_words};
 
 use crate::history::commit;
-use crate::told::{Refusal, Told, refused};
+use crate::region::clear;
+use crate::told::{Refusal, Told};
 use expr::place::follow;
 use expr::source::Source;
 use memory::layout::{BUILD, FRAMES, Frames, Memory, RESERVE, Slot, current};
@@ -24,22 +25,13 @@ use scope::uses::list_uses;
 use wire::field::Target;
 use wire::program::find_function;
 
-// Zeros from one word up to, and without, the other.
-fn clear(memory: &mut Memory, from: usize, to: usize)
-    requires { (from ≤ to) × (to ≤ 262144) }
-    ensures { memory.new ≡ put_words memory.old from (zero_words (to - from)) }
-{
-    memory[from..to].fill(0);
-}
-
 // What stands in the build area is the current program, and the one before can be gone back to.
 fn accept(memory: &mut Memory, len: usize)
-    requires { 8 ≤ len }
     ensures { memory.new ≡ accepted memory.old len }
 {
-    clear(memory, FRAMES, RESERVE);
+    clear(memory, FRAMES..RESERVE);
     commit(memory, len as u64);
-    clear(memory, BUILD, FRAMES);
+    clear(memory, BUILD..FRAMES);
 }
 
 // The program with the new name, in the build area: how many bytes it has.
@@ -73,11 +65,11 @@ fn rename(memory: &mut Memory, binder: Binder, to: &[u8], out: &mut [u8]) -> Tol
     match write_new(&renaming, binder.body, area, frames, list) {
         Ok(len) => {
             accept(memory, len);
-            Told::Done
+            Ok(None)
         }
         Err(why) => {
-            clear(memory, BUILD, RESERVE);
-            refused(why)
+            clear(memory, BUILD..RESERVE);
+            Err(why)
         }
     }
 }
@@ -87,18 +79,10 @@ pub fn rename_bind(memory: &mut Memory, at: Target<'_>, to: &[u8], out: &mut [u8
     ensures { Tells (rename_bind_step memory.old at.entry.function.now at.entry.place.now to.now) result out.old memory.new out.new }
 {
     let program = current(memory);
-    let Some(function) = find_function(&program, at.function) else {
-        return refused(Refusal::Missing);
-    };
-    let Some(body) = body_of(&program, function) else {
-        return refused(Refusal::Missing);
-    };
-    let Some(place) = follow(&program, at.place, body) else {
-        return refused(Refusal::Missing);
-    };
-    let Some(bind) = let_at(&program, place) else {
-        return refused(Refusal::WrongKind);
-    };
+    let function = find_function(&program, at.function).ok_or(Refusal::Missing)?;
+    let body = body_of(&program, function).ok_or(Refusal::Missing)?;
+    let place = follow(&program, at.place, body).ok_or(Refusal::Missing)?;
+    let bind = let_at(&program, place).ok_or(Refusal::WrongKind)?;
     rename(memory, bind, to, out)
 }
 
@@ -113,14 +97,10 @@ pub fn rename_param(
     ensures { Tells (rename_param_step memory.old function.now index to.now) result out.old memory.new out.new }
 {
     let program = current(memory);
-    let Some(at) = find_function(&program, function) else {
-        return refused(Refusal::Missing);
-    };
-    let Some(own) = own_name(&program, at, index) else {
-        return refused(Refusal::Missing);
-    };
+    let at = find_function(&program, function).ok_or(Refusal::Missing)?;
+    let own = own_name(&program, at, index).ok_or(Refusal::Missing)?;
     if other_own_is(&program, at, index, to) {
-        return refused(Refusal::Captured);
+        return Err(Refusal::Captured);
     }
     rename(memory, own, to, out)
 }

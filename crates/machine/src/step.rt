@@ -1,7 +1,7 @@
 // One step of the machine.
-ghost use Rattle.std.specs.Prelude.{◌≡◌, ◌≤◌, length};
+ghost use Rattle.std.specs.Prelude.{◌≡◌, true};
 ghost use Rattle.machine.specs.Machine.{ask_step, gone_on, by_event, own};
-ghost use Rattle.machine.specs.Told.{Loadable, Tells, StepSays, step_fits};
+ghost use Rattle.machine.specs.Told.{KindRead, kind_number, Loadable, Tells, StepSays, step_fits};
 ghost use Rattle.model.specs.Engine.{said};
 ghost use Rattle.model.specs.Known.{basics};
 ghost use Rattle.model.specs.Whole.{Whole};
@@ -10,24 +10,56 @@ ghost use Rattle.wire.specs.Request.{request_asks};
 use crate::answers::{show, show_name};
 use crate::history::undo;
 use crate::load::load;
-use crate::told::{Refusal, Told, refused};
-use memory::layout::{MARK, Memory, end_answer, memory_fits};
+pub use crate::rows::ROW_BYTES;
+use crate::rows::Row;
+use crate::told::{Refusal, Told};
+use memory::layout::{MARK, MEMORY_WORDS, Memory, end_answer, memory_fits};
 use wire::request::{Request, read};
 
-// The kinds of a step: a command is said, or the machine is to go on.
+// The numbers of the kinds.
 pub const SAID: u64 = 0;
 
 pub const GO_ON: u64 = 1;
 
+// A command is said, or the machine is to go on.
+#[derive(Clone, Copy, Debug, PartialEq, Eq)]
+pub enum Kind {
+    Said,
+    GoOn,
+}
+
+impl From<Kind> for u64 {
+    ghost from_gives = { λ kind number. number ≡ kind_number kind };
+
+    fn from(kind: Kind) -> u64 {
+        match kind {
+            Kind::Said => SAID,
+            Kind::GoOn => GO_ON,
+        }
+    }
+}
+
+// A number of no kind is misuse.
+impl TryFrom<u64> for Kind {
+    type Error = Refusal;
+
+    ghost try_from_gives = { KindRead };
+
+    fn try_from(number: u64) -> Result<Kind, Refusal> {
+        match number {
+            SAID => Ok(Kind::Said),
+            GO_ON => Ok(Kind::GoOn),
+            _ => Err(Refusal::Misuse),
+        }
+    }
+}
+
 // Where a program's first function begins, after the count.
 const FIRST_FUNCTION: usize = 8;
 
-// A row has at most so many bytes.
-pub const ROW_BYTES: usize = 131072;
-
 // A command that was read.
-fn answer(memory: &mut Memory, request: Request<'_>, out: &mut [u8]) -> Told
-    requires { (131072 ≤ length out.old) × (Loadable request) }
+fn answer(memory: &mut Memory, request: Request<'_>, out: &mut Row) -> Told
+    requires { Loadable request }
     ensures { Tells (ask_step memory.old (request_asks request.entry)) result out.old memory.new out.new }
 {
     match request {
@@ -35,37 +67,33 @@ fn answer(memory: &mut Memory, request: Request<'_>, out: &mut [u8]) -> Told
         Request::Show { function } => show(memory, function, out),
         Request::Names => show_name(memory, FIRST_FUNCTION, out),
         Request::Undo => undo(memory, out),
-        Request::RenameBind { .. } => refused(Refusal::NotKnown),
-        Request::RenameParam { .. } => refused(Refusal::NotKnown),
-        Request::RenameFunction { .. } => refused(Refusal::NotKnown),
-        Request::Extract { .. } => refused(Refusal::NotKnown),
-        Request::InlineBind { .. } => refused(Refusal::NotKnown),
-        Request::InlineCall { .. } => refused(Refusal::NotKnown),
-        Request::TurnIf { .. } => refused(Refusal::NotKnown),
-        Request::DropFunction { .. } => refused(Refusal::NotKnown),
+        Request::RenameBind { .. }
+        | Request::RenameParam { .. }
+        | Request::RenameFunction { .. }
+        | Request::Extract { .. }
+        | Request::InlineBind { .. }
+        | Request::InlineCall { .. }
+        | Request::TurnIf { .. }
+        | Request::DropFunction { .. } => Err(Refusal::NotKnown),
     }
 }
 
 // A command is said: the answer under way ends, whatever becomes of the new one.
-fn obey(memory: &mut Memory, text: &[u8], out: &mut [u8]) -> Told
-    requires { 131072 ≤ length out.old }
+fn obey(memory: &mut Memory, text: &[u8], out: &mut Row) -> Told
     ensures { Tells (by_event memory.old (said text.now)) result out.old memory.new out.new }
 {
     end_answer(memory);
-    let Some(request) = read(text) else {
-        return refused(Refusal::NotACommand);
-    };
+    let request = read(text).ok_or(Refusal::NotACommand)?;
     answer(memory, request, out)
 }
 
 // The next row of the answer under way, or its end.
-fn go_on(memory: &mut Memory, out: &mut [u8]) -> Told
-    requires { 131072 ≤ length out.old }
+fn go_on(memory: &mut Memory, out: &mut Row) -> Told
     ensures { Tells (gone_on memory.old) result out.old memory.new out.new }
 {
     let mark = memory[MARK];
     if mark == 0 {
-        return refused(Refusal::Misuse);
+        return Err(Refusal::Misuse);
     }
     show_name(memory, mark as usize - 1, out)
 }
@@ -75,18 +103,16 @@ pub fn step(memory: &mut [u64], kind: u64, text: &[u8], out: &mut [u8]) -> Told
     ensures says { StepSays own memory.old kind text.now out.old (step_fits own memory.old kind out.old) result memory.new out.new }
     ensures whole { Whole basics own }
 {
-    if kind > GO_ON {
-        return refused(Refusal::Misuse);
-    }
-    if out.len() < ROW_BYTES {
-        return refused(Refusal::Misuse);
-    }
+    let kind = Kind::try_from(kind)?;
+    let row = out.first_chunk_mut::<ROW_BYTES>().ok_or(Refusal::Misuse)?;
+    let memory = memory
+        .as_mut_array::<MEMORY_WORDS>()
+        .ok_or(Refusal::Misuse)?;
     if !memory_fits(memory) {
-        return refused(Refusal::Misuse);
+        return Err(Refusal::Misuse);
     }
-    let memory: &mut Memory = memory.as_mut_array().unwrap();
-    if kind == GO_ON {
-        return go_on(memory, out);
+    match kind {
+        Kind::Said => obey(memory, text, row),
+        Kind::GoOn => go_on(memory, row),
     }
-    obey(memory, text, out)
 }

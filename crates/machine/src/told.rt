@@ -1,19 +1,14 @@
 // What a step tells, and why a command is refused.
 ghost use Rattle.std.specs.Prelude.{◌≡◌};
-ghost use Rattle.machine.specs.declared.told.Told.TheVariants.{No};
 ghost use Rattle.machine.specs.Told.{refusal_number};
 
-// What one step did.
-#[derive(Clone, Copy)]
-pub enum Told {
-    // So many bytes of the lent row are shown.
-    Shows(u64),
-    Done,
-    // The number of the refusal.
-    No(u64),
-}
+use std::error::Error;
+use std::fmt;
 
-#[derive(Clone, Copy)]
+// So many bytes of the lent row are shown; or none, and the command is done.
+pub type Told = Result<Option<u64>, Refusal>;
+
+#[derive(Clone, Copy, Debug, PartialEq, Eq)]
 pub enum Refusal {
     // Lengths, kind or header out of their limits, or nothing to go on with.
     Misuse,
@@ -33,18 +28,39 @@ pub enum Refusal {
     NothingBefore,
 }
 
-pub fn refused(why: Refusal) -> Told
-    ensures { result ≡ No (refusal_number why) }
-{
-    match why {
-        Refusal::Misuse => Told::No(0),
-        Refusal::NotACommand => Told::No(1),
-        Refusal::NotKnown => Told::No(2),
-        Refusal::Missing => Told::No(3),
-        Refusal::NameTaken => Told::No(4),
-        Refusal::Captured => Told::No(5),
-        Refusal::WrongKind => Told::No(6),
-        Refusal::TooLarge => Told::No(7),
-        Refusal::NothingBefore => Told::No(9),
+impl From<Refusal> for u64 {
+    ghost from_gives = { λ why number. number ≡ refusal_number why };
+
+    fn from(why: Refusal) -> u64 {
+        match why {
+            Refusal::Misuse => 0,
+            Refusal::NotACommand => 1,
+            Refusal::NotKnown => 2,
+            Refusal::Missing => 3,
+            Refusal::NameTaken => 4,
+            Refusal::Captured => 5,
+            Refusal::WrongKind => 6,
+            Refusal::TooLarge => 7,
+            Refusal::NothingBefore => 9,
+        }
     }
 }
+
+impl fmt::Display for Refusal {
+    fn fmt<W: fmt::Write>(&self, f: &mut fmt::Formatter<W>) -> fmt::Result {
+        f.write_str(match self {
+            Refusal::Misuse =>
+                "lengths, kind or header are out of their limits, or there is nothing to go on with",
+            Refusal::NotACommand => "these bytes are no command",
+            Refusal::NotKnown => "this command is not known yet",
+            Refusal::Missing => "there is no such function, parameter or place",
+            Refusal::NameTaken => "the name is taken",
+            Refusal::Captured => "what the program means would change",
+            Refusal::WrongKind => "what is there is of the wrong kind, or protected",
+            Refusal::TooLarge => "the program would be too large",
+            Refusal::NothingBefore => "there is nothing to go back to",
+        })
+    }
+}
+
+impl Error for Refusal {}

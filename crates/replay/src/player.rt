@@ -3,7 +3,7 @@ ghost use Rattle.std.specs.Prelude.{◌≡◌, replicate, vec_len};
 
 use crate::fault::Stop;
 use crate::output::Output;
-use machine::step::{GO_ON, ROW_BYTES, SAID, step};
+use machine::step::{Kind, ROW_BYTES, step};
 use machine::told::Told;
 use memory::layout::MEMORY_WORDS;
 use session::{Ending, read_line};
@@ -59,24 +59,24 @@ impl Player {
         }
     }
 
-    fn step(&mut self, kind: u64, text: &[u8]) -> Told {
+    fn step(&mut self, kind: Kind, text: &[u8]) -> Told {
         step(
             self.memory.as_mut_slice(),
-            kind,
+            kind.into(),
             text,
             self.row.as_mut_slice(),
         )
     }
 
     fn say(&mut self, command: &[u8]) -> Result<(), Stop> {
-        let mut told = self.step(SAID, command);
+        let mut told = self.step(Kind::Said, command);
         for _ in 0..=MOST_ROWS {
             match told {
-                Told::Shows(len) => self.show(len)?,
-                Told::Done => return Ok(self.output.ending(Ending::Done)?),
-                Told::No(reason) => return Ok(self.output.ending(Ending::Refused(reason))?),
+                Ok(Some(len)) => self.show(len)?,
+                Ok(None) => return Ok(self.output.ending(Ending::Done)?),
+                Err(why) => return Ok(self.output.ending(Ending::Refused(why.into()))?),
             }
-            told = self.step(GO_ON, &[]);
+            told = self.step(Kind::GoOn, &[]);
         }
         Err(Stop::Endless { line: self.line })
     }

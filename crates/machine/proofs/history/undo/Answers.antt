@@ -1,9 +1,10 @@
+use Rattle.std.proofs.Common.{refl}
 use Rattle.machine.specs.History.{gone_back}
 use Rattle.machine.proofs.AnswerFacts.{undo_none, undo-done}
 use Rattle.machine.proofs.history.undo.Goals as goal
 
 pub returns-then-older-eq0 : goal.returns-then-older-eq0
-returns-then-older-eq0 c = undo_none _ _ _ c.if-older-eq0.true c.refused.ensures
+returns-then-older-eq0 c = undo_none _ _ _ c.if-older-eq0.true refl
 
 pub returns : goal.returns
 unfolding gone_back

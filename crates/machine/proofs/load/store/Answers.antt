@@ -3,11 +3,8 @@ use Rattle.language.specs.Packed.{packed}
 use Rattle.language.proofs.PackedLaws.{length_packed_words}
 use Rattle.machine.specs.History.{loaded}
 use Rattle.memory.proofs.AreaFacts.{put_in-part}
-use Rattle.machine.proofs.LoadFacts.{bytes_short, bytes_counted}
+use Rattle.machine.proofs.LoadFacts.{bytes_short}
 use Rattle.machine.proofs.load.store.Goals as goal
-
-pub overflow_sub-memory : goal.overflow_sub-memory
-overflow_sub-memory c = bytes_counted c.args.program.now c.requires
 
 pub returns : goal.returns
 unfolding loaded

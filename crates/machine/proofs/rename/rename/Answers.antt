@@ -2,7 +2,7 @@
 use Rattle.std.proofs.Common.{◌-◌, refl, ◌∙◌, arith}
 use Rattle.memory.specs.Layout.{held}
 use Rattle.scope.specs.Binding.{binder_of}
-use Rattle.machine.proofs.RenameSteps.{chunk, reserve_is, front-same, written-same, written-low, area-accepted, area-wiped, renamed-err, renamed-ok}
+use Rattle.machine.proofs.RenameSteps.{chunk, reserve_is, front-same, written-same, area-accepted, area-wiped, renamed-err, renamed-ok}
 use Rattle.machine.proofs.rename.rename.Goals as goal
 
 pub unwrap-requires-3 : goal.unwrap-requires-3
@@ -10,12 +10,6 @@ unwrap-requires-3 c =
     let one = chunk _ _ 8192 _ c.split_first_chunk_mut.ensures.cases c.unwrap.ensures in
     let two = chunk _ _ 40960 _ c.split_first_chunk_mut-2.ensures.cases c.unwrap-2.ensures in
     c.split_first_chunk_mut-3.ensures.variant.1 (omega (arith, one.long, two.long, c.split_at_mut-front.ensures.back_len))
-
-pub accept-requires : goal.accept-requires
-accept-requires c =
-    let m = c.args.memory.now in
-    let same = front-same m _ _ c.split_at_mut-front.ensures.front c.current.ensures in
-    written-low m _ _ _ _ _ (omega arith) (written-same m _ same c.args.binder.name c.args.to.now (c.args.binder.name.from - 8) c.args.binder.body _ _ c.in-Ok.ensures.written)
 
 pub returns-in-Ok : goal.returns-in-Ok
 returns-in-Ok c =
@@ -44,4 +38,4 @@ returns-in-Err c =
     (written-same m _ same c.args.binder.name c.args.to.now (c.args.binder.name.from - 8) c.args.binder.body _ _ c.in-Err.ensures.written)
     (c.clear.ensures
     ∙ area-wiped m _ _ _ _ _ _ refl (omega arith) c.split_at_mut-front.ensures.front (reserve_is m _ _ _ _ c.split_at_mut-front.ensures.back one.back two.back three.back) long.0 long.1 long.2)
-    c.refused.ensures
+    refl
