@@ -14,7 +14,8 @@ use Rattle.language.proofs.ListFacts.{every_take, every_drop, every_append, flat
 use Rattle.language.proofs.ReadingFacts.{ends-done, ends_short, ends_more, ends_after, ends-turn, found_some, pick-found}
 use Rattle.language.proofs.StandsFacts.{Stands, stands-first, stands-second, stands_join, stands_in}
 use Rattle.language.proofs.HeadFacts.{head-stands, HeadThere, head-there}
-use Rattle.language.proofs.NodeFacts.{spelled_node, parts-arity, head-fits, node_fits, Node, node, head-long, spelled-long}
+use Rattle.language.proofs.PartsFacts.{spelled_nine}
+use Rattle.language.proofs.NodeFacts.{spelled_node, parts-arity, head-fits, node_fits, Node, node, head-long}
 
 -- an expression and those after it: its head, then its parts and those after it
 pub spelled-next : (e : Expr) (es : List Expr) → flat expr_spelled (e ∷ es) ≡ head_spelled (head_of e) ++ flat expr_spelled (parts e ++ es)
@@ -25,7 +26,7 @@ spelled-next e es =
 pub spelled_count : (es : List Expr) → length es ≤ length (flat expr_spelled es)
 spelled_count [] = omega arith
 spelled_count (e ∷ es) =
-    omega (arith, spelled-long e, spelled_count es, length-append (expr_spelled e) (flat expr_spelled es))
+    omega (arith, spelled_nine e, spelled_count es, length-append (expr_spelled e) (flat expr_spelled es))
 
 -- where expressions stand, the first one's head stands, and after it its parts and the others
 module _ (bs : List ℕ) (i : ℕ) (e : Expr) (es : List Expr) (s : Stands bs i (flat expr_spelled (e ∷ es))) where

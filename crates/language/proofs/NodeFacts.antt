@@ -1,5 +1,5 @@
 -- An expression is its head and its parts: how it is spelled, when it fits, and that any head with so many parts is one. Assumes nothing.
-use Rattle.std.proofs.Common.{◌≡◌, suc, ◌≤◌, Bool, true, false, ◌&&◌, leb, List, [], ◌∷◌, ◌++◌, length, sym, refl, ap, ◌∙◌, arith}
+use Rattle.std.proofs.Common.{◌≡◌, suc, ◌≤◌, Bool, true, false, ◌&&◌, leb, List, [], ◌∷◌, ◌++◌, length, get_or, sym, refl, ap, ◌∙◌, ap₂, arith}
 use Rattle.std.proofs.lemmas.List.{append_assoc, append-nil, length-append}
 use Rattle.std.proofs.lemmas.Bool.{and_parts, and_from}
 use Rattle.language.specs.Basics.{every, flat}
@@ -80,6 +80,34 @@ unfolding values
 values_in_are [] = refl
 values_in_are (e ∷ es) = ap (λ r. e ∷ r) (values_in_are es)
 
+-- an expression again from them
+values_again : (es : Exprs) → values (exprs_in es) ≡ es
+unfolding values
+values_again no_exprs = refl
+values_again (expr_and e es) = ap (expr_and e) (values_again es)
+
+built : Head → List Expr → Expr
+built (h_num n) es = num n
+built (h_var x) es = var x
+built (h_bin k) es = bin k (get_or es 0 (num 0)) (get_or es 1 (num 0))
+built (h_call f k) es = call f (values es)
+built (h_bind x) es = bind x (get_or es 0 (num 0)) (get_or es 1 (num 0))
+built h_choice es = choice (get_or es 0 (num 0)) (get_or es 1 (num 0)) (get_or es 2 (num 0))
+built h_tell es = tell (get_or es 0 (num 0))
+
+built_again : (e : Expr) → built (head_of e) (parts e) ≡ e
+unfolding built head_of parts
+built_again (num n) = refl
+built_again (var x) = refl
+built_again (bin k a b) = refl
+built_again (call f es) = ap (call f) (values_again es)
+built_again (bind x a b) = refl
+built_again (choice c a b) = refl
+built_again (tell a) = refl
+
+pub node_same : (a b : Expr) → head_of a ≡ head_of b → parts a ≡ parts b → a ≡ b
+node_same a b h p = sym (built_again a) ∙ ap₂ built h p ∙ built_again b
+
 pub node : (h : Head) (es : List Expr) → length es ≡ arity h → Node h es
 unfolding arity head_of parts
 node (h_num n) [] l = record { made = num n; head_is = refl; parts_are = refl }
@@ -113,7 +141,3 @@ head-long (h_call f k) = omega arith
 head-long (h_bind x) = omega arith
 head-long h_choice = omega arith
 head-long h_tell = omega arith
-
-pub spelled-long : (e : Expr) → 1 ≤ length (expr_spelled e)
-spelled-long e =
-    omega (arith, ap length (spelled_node e), length-append (head_spelled (head_of e)) (flat expr_spelled (parts e)), head-long (head_of e))

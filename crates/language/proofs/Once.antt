@@ -13,41 +13,9 @@ use Rattle.language.specs.Reading.{Token}
 use Rattle.language.proofs.ListFacts.{every_append}
 use Rattle.language.proofs.StandsFacts.{Stands, stands-first, stands-second, stands_in, length-eight, number_stands}
 use Rattle.language.proofs.HeadFacts.{name-stands, name_bytes, head-stands}
-use Rattle.language.proofs.NodeFacts.{parts-arity, head-fits, head-long}
+use Rattle.language.proofs.NodeFacts.{parts-arity, head-fits, node_same, head-long}
 use Rattle.language.proofs.ExprFacts.{first-stands, rest-stands}
 use Rattle.language.proofs.ProgramFacts.{params_spelled, some_params, fun-parts, whole-stands}
-
--- an expression again from its head and its parts
-as_values : List Expr → Exprs
-as_values [] = no_exprs
-as_values (e ∷ es) = expr_and e (as_values es)
-
-values_again : (es : Exprs) → as_values (exprs_in es) ≡ es
-unfolding as_values
-values_again no_exprs = refl
-values_again (expr_and e es) = ap (expr_and e) (values_again es)
-
-built : Head → List Expr → Expr
-built (h_num n) es = num n
-built (h_var x) es = var x
-built (h_bin k) es = bin k (get_or es 0 (num 0)) (get_or es 1 (num 0))
-built (h_call f k) es = call f (as_values es)
-built (h_bind x) es = bind x (get_or es 0 (num 0)) (get_or es 1 (num 0))
-built h_choice es = choice (get_or es 0 (num 0)) (get_or es 1 (num 0)) (get_or es 2 (num 0))
-built h_tell es = tell (get_or es 0 (num 0))
-
-built_again : (e : Expr) → built (head_of e) (parts e) ≡ e
-unfolding built head_of parts
-built_again (num n) = refl
-built_again (var x) = refl
-built_again (bin k a b) = refl
-built_again (call f es) = ap (call f) (values_again es)
-built_again (bind x a b) = refl
-built_again (choice c a b) = refl
-built_again (tell a) = refl
-
-node_same : (a b : Expr) → head_of a ≡ head_of b → parts a ≡ parts b → a ≡ b
-node_same a b h p = sym (built_again a) ∙ ap₂ built h p ∙ built_again b
 
 -- two that fit and stand at one place are one
 abbrev pub Once : {A : Type 0} → List ℕ → (A → List ℕ) → (A → Bool) → Type 0

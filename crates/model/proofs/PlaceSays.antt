@@ -6,6 +6,7 @@ use Rattle.language.specs.Bytes.{Name}
 use Rattle.language.specs.Expr.{Expr, num, var, bin, call, bind, choice, tell, Exprs, no_exprs, expr_and, exprs_in, parts}
 use Rattle.language.specs.Places.{nth_expr, in_some, at_place, put_nth, with_part, put_some, put_at}
 use Rattle.language.specs.Bare.{Bare, b_bin, b_call, b_bind, b_choice, b_tell, bare_and, bare, bare_all}
+use Rattle.language.proofs.PlaceFacts.{within}
 use Rattle.model.specs.Extract.{given_in, given_to, given_at}
 use Rattle.model.proofs.Says.{Says, says_map}
 
@@ -47,13 +48,9 @@ pub place_says : (t : Bool) (ks : List ℕ) (xs : List Name) (e old : Expr) (os 
     Says t (bare (given_at xs e ks) old ≡ bare (given_at xs e ks) new) → Says t (bare xs e ≡ bare xs (put_at e ks new))
 unfolding at_place given_at given_to put_at
 place_says t [] xs e old os new h s = says_for t xs e old (cc) s
-place_says t (k ∷ ks) xs e old os new h s = go (nth_expr (parts e) k) refl h s (λ c. place_says t ks (given_in xs e k) c old os new)
-  where
-    go : (cs : List Expr) → nth_expr (parts e) k ≡ cs → in_some cs (λ c. at_place c ks) ≡ old ∷ os →
-        Says t (bare (given_to (given_in xs e k) cs (λ ys a. given_at ys a ks)) old ≡ bare (given_to (given_in xs e k) cs (λ ys a. given_at ys a ks)) new) →
-        ((c : Expr) → at_place c ks ≡ old ∷ os →
-        Says t (bare (given_at (given_in xs e k) c ks) old ≡ bare (given_at (given_in xs e k) c ks) new) →
-        Says t (bare (given_in xs e k) c ≡ bare (given_in xs e k) (put_at c ks new))) →
-        Says t (bare xs e ≡ bare xs (put_some e k cs (λ c. put_at c ks new)))
-    go [] p h s ih = absurd (nil≢cons h)
-    go (c ∷ cs) p h s ih = part_says t xs e k c cs (put_at c ks new) p (ih c h s)
+place_says t (k ∷ ks) xs e old os new h s =
+    let r = within e k ks old os h in
+    subst (λ z. Says t (bare xs e ≡ bare xs z)) (sym (r.put new))
+    (part_says t xs e k r.part r.others (put_at r.part ks new) r.is_part
+    (place_says t ks (given_in xs e k) r.part old os new r.stands
+    (subst (λ ps. Says t (bare (given_to (given_in xs e k) ps (λ ys a. given_at ys a ks)) old ≡ bare (given_to (given_in xs e k) ps (λ ys a. given_at ys a ks)) new)) r.is_part s)))

@@ -11,7 +11,8 @@ use Rattle.language.specs.Spelling.{program_spelled}
 use Rattle.language.specs.Fits.{a_name, an_expr, a_fun, a_program}
 use Rattle.language.proofs.ListFacts.{every_take, every_append, every-those, every_so, every-each}
 use Rattle.language.proofs.FitFacts.{bind_fit, choice_fit, fit_bin, fit_bind, fit_choice, pick_true}
-use Rattle.language.proofs.PlaceFits.{parts_fit, at_fit, put_fit}
+use Rattle.language.proofs.NodeFacts.{head-fits}
+use Rattle.language.proofs.PlaceFits.{at_fit, put_fit}
 use Rattle.language.proofs.ProgramFits.{found-every, fun-fits, fit_fun, program_fits, fit_program}
 use Rattle.model.specs.Command.{Command, load, show, names, rename_bind, rename_param, rename_fun, extract, inline_bind, inline_call, turn_cond, drop_fun, undo, a_place, fits}
 use Rattle.model.specs.State.{Plain, at_first, Turn, with_body, fine}
@@ -94,7 +95,7 @@ module _ (w : Plain) (funs : every a_fun w.now ≡ true) where
   call_funs x ks p m =
       let g = m.called.fun in
       let own = fun-fits g (found_fit w.now funs m.name m.called) in
-      let values = parts_fit (call m.name m.values) (standing_is w.now funs x ks m.at _ m.is_call) in
+      let values = (head-fits (call m.name m.values) (standing_is w.now funs x ks m.at _ m.is_call)).1 in
       ap (every a_fun) m.made
       ∙ put_funs w.now funs x ks m.at m.new
       (first-at Fit (binds_of g.params _ g.body) m.new m.news m.lets (lets_fit g.params _ g.body own.2 values own.3))
