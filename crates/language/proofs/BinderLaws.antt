@@ -80,7 +80,7 @@ module _ (bs : List ℕ) (bytes : all_bytes bs ≡ true) (o : ℕ) (f : Fun) (fi
   -- all of them
   pub own_is : own_names bs o ≡ f.params
   own_is =
-      let r = and_parts (a_name f.name) (some_params f.params) (and_parts (a_name f.name && some_params f.params) (an_expr f.body) fit).0 in
+      let r = and_parts _ _ (and_parts _ _ fit).0 in
       own_are bs o f.name f.params r.0 r.1 (stands-first bs o (fun_front f) (expr_spelled f.body) (subst (Stands bs o) (fun_split f) s))
 
   own_at_is : (i : ℕ) → own_at bs o i ≡ pick (ltb i (length f.params)) (times i (name_end bs) names_at) None
@@ -121,7 +121,7 @@ module _ (bs : List ℕ) (bytes : all_bytes bs ≡ true) (o : ℕ) (f : Fun) (fi
         (stands-first bs names_at (flat with_length left) (with_length z ++ flat with_length right) all_stand)
 
     own-fits : a_name z ≡ true
-    own-fits = (and_parts (a_name z) (every a_name right) (every-parts a_name left (z ∷ right) names_fit).1).0
+    own-fits = (and_parts _ _ (every-parts a_name left (z ∷ right) names_fit).1).0
 
     own-stands : Stands bs own_here (with_length z)
     unfolding own_here

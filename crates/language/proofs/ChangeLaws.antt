@@ -44,7 +44,7 @@ body_at bs bytes o f fit s =
     }
   where
     fits : ((a_name f.name && some_params f.params) ≡ true) × (an_expr f.body ≡ true)
-    fits = and_parts (a_name f.name && some_params f.params) (an_expr f.body) fit
+    fits = and_parts _ _ fit
 
     all : Stands bs o (fun_front f ++ expr_spelled f.body)
     all = subst (Stands bs o) (fun_split f) s
@@ -74,9 +74,9 @@ changed_split : (before : Program) (f g : Fun) (after : Program) → distinct (e
 unfolding distinct
 changed_split [] f g after d =
     ap₂ (λ t r. pick t g f ∷ r) (same_refl f.name)
-    (changed_none after f.name g (not-true _ (and_parts (not (has (each (λ h. h.name) after) f.name)) (distinct (each (λ h. h.name) after)) d).0))
+    (changed_none after f.name g (not-true _ (and_parts _ _ d).0))
 changed_split (b ∷ before) f g after d =
-    let q = and_parts (not (has (each (λ h. h.name) (before ++ f ∷ after)) b.name)) (distinct (each (λ h. h.name) (before ++ f ∷ after))) d in
+    let q = and_parts _ _ d in
     let other : same b.name f.name ≡ false =
     apart b.name f.name (each (λ h. h.name) before) (each (λ h. h.name) after)
     (ap (λ xs. has xs b.name) (sym (each_append (λ h. h.name) before (f ∷ after))) ∙ not-true _ q.0) in

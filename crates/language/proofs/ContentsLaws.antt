@@ -30,7 +30,7 @@ names_are bs i (x ∷ xs) fit s =
     ∙ ap₂ ◌∷◌ (name_is bs i x q.0 first) (names_are bs (i + 8 + length x) xs q.1 after)
   where
     q : (a_name x ≡ true) × (every a_name xs ≡ true)
-    q = and_parts (a_name x) (every a_name xs) fit
+    q = and_parts _ _ fit
 
     first : Stands bs i (with_length x)
     first = stands-first bs i (with_length x) (flat with_length xs) s
@@ -49,7 +49,7 @@ own_are bs i x xs fit own s =
     k = i + 8 + length x
 
     q : (leb (length xs) 16 ≡ true) × (every a_name xs ≡ true)
-    q = and_parts (leb (length xs) 16) (every a_name xs) own
+    q = and_parts _ _ own
 
     few : length xs ≤ 16
     few = leb-true _ _ q.0
@@ -107,10 +107,10 @@ module _ (bs : List ℕ) (bytes : all_bytes bs ≡ true) where
       }
     where
       q : (a_fun f ≡ true) × (every a_fun rest ≡ true)
-      q = and_parts (a_fun f) (every a_fun rest) fit
+      q = and_parts _ _ fit
 
       r : (a_name f.name ≡ true) × (some_params f.params ≡ true)
-      r = and_parts (a_name f.name) (some_params f.params) (and_parts (a_name f.name && some_params f.params) (an_expr f.body) q.0).0
+      r = and_parts _ _ (and_parts _ _ q.0).0
 
       here : Stands bs i (fun_spelled f)
       here = stands-first bs i (fun_spelled f) (flat fun_spelled rest) s

@@ -56,7 +56,7 @@ ends_stand (suc f) bs i (e ∷ es) fit s l =
     j = i + length (head_spelled (head_of e))
 
     both : (an_expr e ≡ true) × (every an_expr es ≡ true)
-    both = and_parts (an_expr e) (every an_expr es) fit
+    both = and_parts _ _ fit
 
     first : Stands bs i (head_spelled (head_of e))
     first = first-stands bs i e es s

@@ -9,7 +9,7 @@ use Rattle.language.specs.Fits.{a_name, an_expr, all_exprs}
 use Rattle.language.proofs.StandsFacts.{length-eight}
 
 and_three : (a b c : Bool) → (a && (b && c)) ≡ true → (a ≡ true) × (b ≡ true) × (c ≡ true)
-and_three a b c h = let t = and_parts a (b && c) h in let u = and_parts b c t.1 in (t.0, u.0, u.1)
+and_three a b c h = let t = and_parts _ _ h in let u = and_parts _ _ t.1 in (t.0, u.0, u.1)
 
 three_from : (a b c : Bool) → a ≡ true → b ≡ true → c ≡ true → (a && (b && c)) ≡ true
 three_from a b c p q r = and_from a (b && c) p (and_from b c q r)
@@ -33,13 +33,13 @@ choice_fit c a b h = and_three (an_expr c) (an_expr a) (an_expr b) h
 pub call_fit : (f : Name) (es : Exprs) → an_expr (call f es) ≡ true → (a_name f ≡ true) × (leb (count_exprs es) 16 ≡ true) × (all_exprs es ≡ true)
 unfolding an_expr
 call_fit f es h =
-    let t = and_parts (a_name f && leb (count_exprs es) 16) (all_exprs es) h in
-    let u = and_parts (a_name f) (leb (count_exprs es) 16) t.0 in
+    let t = and_parts _ _ h in
+    let u = and_parts _ _ t.0 in
     (u.0, u.1, t.1)
 
 pub exprs_fit : (e : Expr) (es : Exprs) → all_exprs (expr_and e es) ≡ true → (an_expr e ≡ true) × (all_exprs es ≡ true)
 unfolding all_exprs
-exprs_fit e es h = and_parts (an_expr e) (all_exprs es) h
+exprs_fit e es h = and_parts _ _ h
 
 pub fit_bin : (k : ℕ) (a b : Expr) → ltb k 6 ≡ true → an_expr a ≡ true → an_expr b ≡ true → an_expr (bin k a b) ≡ true
 unfolding an_expr
@@ -60,7 +60,7 @@ fit_call f es o p q = and_from (a_name f && leb (count_exprs es) 16) (all_exprs 
 -- 1 to 32 bytes
 pub name_short : (x : Name) → a_name x ≡ true → length x ≤ 32
 name_short x h =
-    leb-true (length x) 32 (and_parts (leb 1 (length x)) (leb (length x) 32) (and_parts (leb 1 (length x) && leb (length x) 32) (all_bytes x) h).0).1
+    leb-true (length x) 32 (and_parts _ _ (and_parts _ _ h).0).1
 
 pub name-long : (x : Name) → length (with_length x) ≡ length x + 8
 name-long x = omega (arith, length-append (eight (length x)) x, length-eight (length x))

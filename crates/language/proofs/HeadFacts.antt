@@ -20,8 +20,8 @@ length_with x = length-append (eight (length x)) x ∙ ap (λ k. k + length x) (
 module _ (bs : List ℕ) (i : ℕ) (x : Name) (fits : a_name x ≡ true) (h : Stands bs i (with_length x)) where
   short : (1 ≤ length x) × (length x ≤ 32)
   short =
-      let p = and_parts (leb 1 (length x) && leb (length x) 32) (all_bytes x) fits in
-      let q = and_parts (leb 1 (length x)) (leb (length x) 32) p.0 in
+      let p = and_parts _ _ fits in
+      let q = and_parts _ _ p.0 in
       (leb-true _ _ q.0, leb-true _ _ q.1)
 
   name_room : i + 8 + length x ≤ length bs
@@ -78,8 +78,8 @@ name_there bs i j bytes e =
     let got = found_some (number_at bs i) (λ n. pick ((leb 1 n && leb n 32) && leb (i + 8 + n) (length bs)) (Some (i + 8 + n)) None) j e in
     let n = got.0 in
     let kept = pick_some ((leb 1 n && leb n 32) && leb (i + 8 + n) (length bs)) (i + 8 + n) j got.2 in
-    let both = and_parts (leb 1 n && leb n 32) (leb (i + 8 + n) (length bs)) kept.0 in
-    let sizes = and_parts (leb 1 n) (leb n 32) both.0 in
+    let both = and_parts _ _ kept.0 in
+    let sizes = and_parts _ _ both.0 in
     subst (NameThere bs i) kept.1
     (name-made bs i n bytes (number_there bs i n bytes got.1) (leb-true _ _ sizes.0) (leb-true _ _ sizes.1) (leb-true _ _ both.1))
 
@@ -141,7 +141,7 @@ head-stands bs i (h_bin k) fits s =
     first_kind bs i 2 (k ∷ []) s ∙ bin-stands bs (i + 1) k (ltb-true k 6 fits) (after_kind bs i 2 (k ∷ []) s) ∙ ap (λ j. Some (token (h_bin k) j)) (omega arith)
 head-stands bs i (h_call x k) fits s =
     first_kind bs i 3 (with_length x ++ k ∷ []) s
-    ∙ call-stands bs (i + 1) x k (and_parts (a_name x) (leb k 16) fits).0 (leb-true _ _ (and_parts (a_name x) (leb k 16) fits).1) (after_kind bs i 3 (with_length x ++ k ∷ []) s)
+    ∙ call-stands bs (i + 1) x k (and_parts _ _ fits).0 (leb-true _ _ (and_parts _ _ fits).1) (after_kind bs i 3 (with_length x ++ k ∷ []) s)
     ∙ ap (λ j. Some (token (h_call x k) j)) (omega arith)
 head-stands bs i (h_bind x) fits s = first_kind bs i 4 (with_length x) s ∙ named_stands h_bind bs (i + 1) x fits (after_kind bs i 4 (with_length x) s) ∙ ap (λ j. Some (token (h_bind x) j)) (omega arith)
 head-stands bs i h_choice fits s = first_kind bs i 5 [] s
@@ -198,7 +198,7 @@ bin-there : (bs : List ℕ) (i : ℕ) (t : Token) → bin_at bs i ≡ Some t →
 unfolding a_head head_spelled
 bin-there bs i t e =
     let kept = pick_some (ltb i (length bs) && ltb (get_or bs i 0) 6) (token (h_bin (get_or bs i 0)) (i + 1)) t e in
-    let both = and_parts (ltb i (length bs)) (ltb (get_or bs i 0) 6) kept.0 in
+    let both = and_parts _ _ kept.0 in
     subst (RestThere 2 bs i) kept.1
     (record { rest = get_or bs i 0 ∷ []; spelled = refl; fits = both.1; stands = byte_stands bs i (ltb-true _ _ both.0); end = refl })
 
@@ -210,7 +210,7 @@ call-there bs i t bytes e =
     let x = between (i + 8) j bs in
     let n = name_there bs i j bytes got.1 in
     let kept = pick_some (ltb j (length bs) && leb (get_or bs j 0) 16) (token (h_call x (get_or bs j 0)) (j + 1)) t got.2 in
-    let both = and_parts (ltb j (length bs)) (leb (get_or bs j 0) 16) kept.0 in
+    let both = and_parts _ _ kept.0 in
     subst (RestThere 3 bs i) kept.1
     (record {
       rest = with_length x ++ get_or bs j 0 ∷ [];

@@ -9,22 +9,22 @@ module _ {A : Type 0} (p : A → Bool) where
   every_take zero xs h = refl
   every_take (suc n) [] h = refl
   every_take (suc n) (x ∷ xs) h =
-      let q = and_parts (p x) (every p xs) h in and_from (p x) (every p (take n xs)) q.0 (every_take n xs q.1)
+      let q = and_parts _ _ h in and_from (p x) (every p (take n xs)) q.0 (every_take n xs q.1)
 
   pub every_drop : (n : ℕ) (xs : List A) → every p xs ≡ true → every p (drop n xs) ≡ true
   every_drop zero xs h = h
   every_drop (suc n) [] h = refl
-  every_drop (suc n) (x ∷ xs) h = every_drop n xs (and_parts (p x) (every p xs) h).1
+  every_drop (suc n) (x ∷ xs) h = every_drop n xs (and_parts _ _ h).1
 
   pub every_append : (xs ys : List A) → every p xs ≡ true → every p ys ≡ true → every p (xs ++ ys) ≡ true
   every_append [] ys h k = k
   every_append (x ∷ xs) ys h k =
-      let q = and_parts (p x) (every p xs) h in and_from (p x) (every p (xs ++ ys)) q.0 (every_append xs ys q.1 k)
+      let q = and_parts _ _ h in and_from (p x) (every p (xs ++ ys)) q.0 (every_append xs ys q.1 k)
 
   pub every-parts : (xs ys : List A) → every p (xs ++ ys) ≡ true → (every p xs ≡ true) × (every p ys ≡ true)
   every-parts [] ys h = (refl, h)
   every-parts (x ∷ xs) ys h =
-      let q = and_parts (p x) (every p (xs ++ ys)) h in
+      let q = and_parts _ _ h in
       let r = every-parts xs ys q.1 in
       (and_from (p x) (every p xs) q.0 r.0, r.1)
 
@@ -33,7 +33,7 @@ module _ {A : Type 0} (p : A → Bool) where
   every-those q (x ∷ xs) h = go (q x) (every-those q xs both.1)
     where
       both : (p x ≡ true) × (every p xs ≡ true)
-      both = and_parts (p x) (every p xs) h
+      both = and_parts _ _ h
 
       go : (t : Bool) → every p (those q xs) ≡ true → every p (pick t (x ∷ those q xs) (those q xs)) ≡ true
       go true ih = and_from (p x) (every p (those q xs)) both.0 ih
@@ -42,13 +42,13 @@ module _ {A : Type 0} (p : A → Bool) where
 pub every_so : {A : Type 0} (p q : A → Bool) → ((x : A) → p x ≡ true → q x ≡ true) → (xs : List A) → every p xs ≡ true → every q xs ≡ true
 every_so p q h [] k = refl
 every_so p q h (x ∷ xs) k =
-    let both = and_parts (p x) (every p xs) k in and_from (q x) (every q xs) (h x both.0) (every_so p q h xs both.1)
+    let both = and_parts _ _ k in and_from (q x) (every q xs) (h x both.0) (every_so p q h xs both.1)
 
 pub every-each : {A B : Type 0} (p : A → Bool) (q : B → Bool) (f : A → B) → ((x : A) → p x ≡ true → q (f x) ≡ true) → (xs : List A) → every p xs ≡ true →
     every q (each f xs) ≡ true
 every-each p q f h [] k = refl
 every-each p q f h (x ∷ xs) k =
-    let both = and_parts (p x) (every p xs) k in and_from (q (f x)) (every q (each f xs)) (h x both.0) (every-each p q f h xs both.1)
+    let both = and_parts _ _ k in and_from (q (f x)) (every q (each f xs)) (h x both.0) (every-each p q f h xs both.1)
 
 pub each_long : {A B : Type 0} (f : A → B) (xs : List A) → length (each f xs) ≡ length xs
 each_long f [] = refl
@@ -91,8 +91,8 @@ every_from p d (x ∷ xs) h = and_from (p x) (every p xs) (h 0 (omega arith)) (e
 
 pub every-at : {A : Type 0} (p : A → Bool) (d : A) (xs : List A) → every p xs ≡ true → (k : ℕ) → k < length xs → p (get_or xs k d) ≡ true
 every-at p d [] h k l = absurd (omega arith)
-every-at p d (x ∷ xs) h zero l = (and_parts (p x) (every p xs) h).0
-every-at p d (x ∷ xs) h (suc k) l = every-at p d xs (and_parts (p x) (every p xs) h).1 k (omega arith)
+every-at p d (x ∷ xs) h zero l = (and_parts _ _ h).0
+every-at p d (x ∷ xs) h (suc k) l = every-at p d xs (and_parts _ _ h).1 k (omega arith)
 
 pub take_past : {A : Type 0} (n : ℕ) (xs ys : List A) → length xs ≤ n → take n (xs ++ ys) ≡ xs ++ take (n - length xs) ys
 take_past n [] ys h = ap (λ k. take k ys) (let z : n ≡ n - 0 = omega arith in z)

@@ -17,7 +17,7 @@ same_eq [] [] h = refl
 same_eq [] (y ∷ ys) h = absurd (clash h)
 same_eq (x ∷ xs) [] h = absurd (clash h)
 same_eq (x ∷ xs) (y ∷ ys) h =
-    ap₂ ◌∷◌ (eqb-true x y (and_parts (eqb x y) (same xs ys) h).0) (same_eq xs ys (and_parts (eqb x y) (same xs ys) h).1)
+    ap₂ ◌∷◌ (eqb-true x y (and_parts _ _ h).0) (same_eq xs ys (and_parts _ _ h).1)
 
 pub same_sym : (x y : Name) → same x y ≡ same y x
 same_sym x y = go (same x y) (same y x) refl refl
@@ -100,8 +100,8 @@ has-less y (z ∷ zs) x = go (same y z) refl (has-less y zs x)
 -- names of which xs has each
 pub every-has : (xs ys : List Name) → every (has xs) ys ≡ true → (y : Name) → has ys y ≡ true → has xs y ≡ true
 every-has xs [] h y k = absurd (clash k)
-every-has xs (z ∷ zs) h y k = go (same y z) refl k (every-has xs zs (and_parts (has xs z) (every (has xs) zs) h).1 y)
+every-has xs (z ∷ zs) h y k = go (same y z) refl k (every-has xs zs (and_parts _ _ h).1 y)
   where
     go : (t : Bool) → same y z ≡ t → or t (has zs y) ≡ true → (has zs y ≡ true → has xs y ≡ true) → has xs y ≡ true
-    go true e k ih = ap (has xs) (same_eq y z e) ∙ (and_parts (has xs z) (every (has xs) zs) h).0
+    go true e k ih = ap (has xs) (same_eq y z e) ∙ (and_parts _ _ h).0
     go false e k ih = ih k

@@ -61,7 +61,7 @@ fits_node (choice c a b) = ap (λ t. an_expr c && (an_expr a && t)) (and-true (a
 fits_node (tell a) = and-true _
 
 pub head-fits : (e : Expr) → an_expr e ≡ true → (a_head (head_of e) ≡ true) × (every an_expr (parts e) ≡ true)
-head-fits e h = and_parts (a_head (head_of e)) (every an_expr (parts e)) (sym (fits_node e) ∙ h)
+head-fits e h = and_parts _ _ (sym (fits_node e) ∙ h)
 
 pub node_fits : (e : Expr) → a_head (head_of e) ≡ true → every an_expr (parts e) ≡ true → an_expr e ≡ true
 node_fits e h k = fits_node e ∙ and_from (a_head (head_of e)) (every an_expr (parts e)) h k

@@ -42,10 +42,10 @@ SameExprs n bs =
 module _ (n : ℕ) (bs : List ℕ) (again : SameExprs n bs) (i : ℕ) (e d : Expr) (es ds : List Expr) (h : every an_expr (e ∷ es) ≡ true) (k : every an_expr (d ∷ ds) ≡ true)
     (l : length es ≡ length ds) (s : Stands bs i (flat expr_spelled (e ∷ es))) (t : Stands bs i (flat expr_spelled (d ∷ ds))) (m : length bs - i < suc n) where
   fit_e : (an_expr e ≡ true) × (every an_expr es ≡ true)
-  fit_e = and_parts (an_expr e) (every an_expr es) h
+  fit_e = and_parts _ _ h
 
   fit_d : (an_expr d ≡ true) × (every an_expr ds ≡ true)
-  fit_d = and_parts (an_expr d) (every an_expr ds) k
+  fit_d = and_parts _ _ k
 
   heads : head_of e ≡ head_of d
   heads = head_once bs i (head_of e) (head_of d) (head-fits e fit_e.0).0 (head-fits d fit_d.0).0 (first-stands bs i e es s) (first-stands bs i d ds t)
@@ -96,8 +96,8 @@ module _ {A : Type 0} (bs : List ℕ) (f : A → List ℕ) (ok : A → Bool) (on
   list_once i [] (y ∷ ys) l h k s t = absurd (omega arith)
   list_once i (x ∷ xs) [] l h k s t = absurd (omega arith)
   list_once i (x ∷ xs) (y ∷ ys) l h k s t =
-      let p = and_parts (ok x) (every ok xs) h in
-      let q = and_parts (ok y) (every ok ys) k in
+      let p = and_parts _ _ h in
+      let q = and_parts _ _ k in
       let first = once i x y p.0 q.0 (stands-first bs i (f x) (flat f xs) s) (stands-first bs i (f y) (flat f ys) t) in
       ap₂ ◌∷◌ first
       (list_once (i + length (f x)) xs ys (omega arith) p.1 q.1 (stands-second bs i (f x) (flat f xs) s)
@@ -113,16 +113,16 @@ counted_once bs f ok once i xs ys l m h k s t =
 
 params_once : (bs : List ℕ) → Once bs params_spelled some_params
 params_once bs i xs ys h k s t =
-    let p = and_parts (leb (length xs) 16) (every a_name xs) h in
-    let q = and_parts (leb (length ys) 16) (every a_name ys) k in
+    let p = and_parts _ _ h in
+    let q = and_parts _ _ k in
     counted_once bs with_length a_name (name_once bs) i xs ys (omega (arith, leb-true (length xs) 16 p.0)) (omega (arith, leb-true (length ys) 16 q.0)) p.1 q.1 s t
 
 pub fun_once : (bs : List ℕ) → Once bs fun_spelled a_fun
 fun_once bs i f g h k s t =
-    let p = and_parts (a_name f.name && some_params f.params) (an_expr f.body) h in
-    let p1 = and_parts (a_name f.name) (some_params f.params) p.0 in
-    let q = and_parts (a_name g.name && some_params g.params) (an_expr g.body) k in
-    let q1 = and_parts (a_name g.name) (some_params g.params) q.0 in
+    let p = and_parts _ _ h in
+    let p1 = and_parts _ _ p.0 in
+    let q = and_parts _ _ k in
+    let q1 = and_parts _ _ q.0 in
     let sf = subst (Stands bs i) (fun-parts f) s in
     let sg = subst (Stands bs i) (fun-parts g) t in
     let names = name_once bs i f.name g.name p1.0 q1.0 (stands-first bs i (with_length f.name) (params_spelled f.params ++ expr_spelled f.body) sf)
@@ -139,9 +139,9 @@ fun_once bs i f g h k s t =
 -- no two programs that fit are spelled alike
 pub program_once : (p q : Program) → a_program p ≡ true → a_program q ≡ true → program_spelled p ≡ program_spelled q → p ≡ q
 program_once p q h k e =
-    let a = and_parts (leb (length p) 1024 && every a_fun p) (leb (length (program_spelled p)) 65536) h in
-    let a1 = and_parts (leb (length p) 1024) (every a_fun p) a.0 in
-    let b = and_parts (leb (length q) 1024 && every a_fun q) (leb (length (program_spelled q)) 65536) k in
-    let b1 = and_parts (leb (length q) 1024) (every a_fun q) b.0 in
+    let a = and_parts _ _ h in
+    let a1 = and_parts _ _ a.0 in
+    let b = and_parts _ _ k in
+    let b1 = and_parts _ _ b.0 in
     counted_once (program_spelled p) fun_spelled a_fun (fun_once (program_spelled p)) 0 p q (omega (arith, leb-true (length p) 1024 a1.0)) (omega (arith, leb-true (length q) 1024 b1.0)) a1.1 b1.1
     (whole-stands (program_spelled p)) (subst (λ r. Stands (program_spelled p) 0 r) e (whole-stands (program_spelled p)))

@@ -13,10 +13,10 @@ use Rattle.language.specs.Fits.{a_name, an_expr, a_fun, a_program}
 pub found-every : (P : Fun → Bool) (p : Program) (x : Name) (f : Fun) (fs : List Fun) → every P p ≡ true → fun_of p x ≡ f ∷ fs → P f ≡ true
 unfolding fun_of
 found-every P [] x f fs h e = absurd (nil≢cons e)
-found-every P (g ∷ gs) x f fs h e = go (same g.name x) e (λ found. found-every P gs x f fs (and_parts (P g) (every P gs) h).1 found)
+found-every P (g ∷ gs) x f fs h e = go (same g.name x) e (λ found. found-every P gs x f fs (and_parts _ _ h).1 found)
   where
     go : (t : Bool) → pick t (g ∷ []) (fun_of gs x) ≡ f ∷ fs → (fun_of gs x ≡ f ∷ fs → P f ≡ true) → P f ≡ true
-    go true e ih = let z : g ≡ f = cc in ap P (sym z) ∙ (and_parts (P g) (every P gs) h).0
+    go true e ih = let z : g ≡ f = cc in ap P (sym z) ∙ (and_parts _ _ h).0
     go false e ih = ih e
 
 found-long : (p : Program) (x : Name) (f : Fun) (fs : List Fun) → fun_of p x ≡ f ∷ fs → length (fun_spelled f) ≤ length (flat fun_spelled p)
@@ -44,9 +44,9 @@ body_short p x f fs e =
 pub fun-fits : (f : Fun) → a_fun f ≡ true →
     (a_name f.name ≡ true) × (length f.params ≤ 16) × (every a_name f.params ≡ true) × (an_expr f.body ≡ true)
 fun-fits f h =
-    let outer = and_parts (a_name f.name && (leb (length f.params) 16 && every a_name f.params)) (an_expr f.body) h in
-    let inner = and_parts (a_name f.name) (leb (length f.params) 16 && every a_name f.params) outer.0 in
-    let own = and_parts (leb (length f.params) 16) (every a_name f.params) inner.1 in
+    let outer = and_parts _ _ h in
+    let inner = and_parts _ _ outer.0 in
+    let own = and_parts _ _ inner.1 in
     (inner.0, leb-true (length f.params) 16 own.0, own.1, outer.1)
 
 pub fit_fun : (f : Fun) → a_name f.name ≡ true → length f.params ≤ 16 → every a_name f.params ≡ true → an_expr f.body ≡ true → a_fun f ≡ true
@@ -59,8 +59,8 @@ fit_fun f named few own body =
 pub program_fits : (p : Program) → a_program p ≡ true →
     (length p ≤ 1024) × (every a_fun p ≡ true) × (length (program_spelled p) ≤ 65536)
 program_fits p h =
-    let outer = and_parts (leb (length p) 1024 && every a_fun p) (leb (length (program_spelled p)) 65536) h in
-    let inner = and_parts (leb (length p) 1024) (every a_fun p) outer.0 in
+    let outer = and_parts _ _ h in
+    let inner = and_parts _ _ outer.0 in
     (leb-true (length p) 1024 inner.0, inner.1, leb-true (length (program_spelled p)) 65536 outer.1)
 
 pub fit_program : (p : Program) → length p ≤ 1024 → every a_fun p ≡ true → length (program_spelled p) ≤ 65536 → a_program p ≡ true
