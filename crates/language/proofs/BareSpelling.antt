@@ -136,7 +136,7 @@ mutual
   unfolding Readable AllReadable bare bare_all an_expr
 
   fit_readable : (e : Expr) (xs : List Name) → an_expr e ≡ true → 2 * length xs + length (expr_spelled e) < 18446744073709551648 → Readable (bare xs e)
-  fit_readable (num n) xs fit h = omega (arith, ltb-true n limit fit)
+  fit_readable (num n) xs fit h = omega (arith, ltb-true _ _ fit)
   fit_readable (var x) xs fit h = var_readable xs x fit (omega (arith, var-long x))
   fit_readable (bin k a b) xs fit h =
       let parts_fit = bin_fit k a b fit in

@@ -12,7 +12,7 @@ pub bytes_append : (xs ys : List ℕ) → all_bytes xs ≡ true → all_bytes ys
 bytes_append = every_append (λ b. ltb b 256)
 
 pub bytes_first : (b : ℕ) (bs : List ℕ) → b < 256 → all_bytes bs ≡ true → all_bytes (b ∷ bs) ≡ true
-bytes_first b bs h k = and_from _ _ (lt-ltb b 256 h) k
+bytes_first _ _ h k = and_from _ _ (lt-ltb _ _ h) k
 
 pub bytes_in : (k n : ℕ) (bs : List ℕ) → all_bytes bs ≡ true → all_bytes (in_bytes k n bs) ≡ true
 unfolding in_bytes

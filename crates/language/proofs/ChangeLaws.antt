@@ -62,12 +62,12 @@ changed-spelled p before f g after e =
 pub changed_none : (p : Program) (x : Name) (g : Fun) → has (each (λ h. h.name) p) x ≡ false → each (λ h. pick (same h.name x) g h) p ≡ p
 changed_none [] x g h = refl
 changed_none (f ∷ fs) x g h =
-    ap₂ ◌∷◌ (ap (λ t. pick t g f) (same_sym f.name x ∙ or_left_false (same x f.name) (has (each (λ k. k.name) fs) x) h))
-    (changed_none fs x g (or_right_false (same x f.name) (has (each (λ k. k.name) fs) x) h))
+    ap₂ ◌∷◌ (ap (λ t. pick t g f) (same_sym f.name x ∙ or_left_false _ _ h))
+    (changed_none fs x g (or_right_false _ _ h))
 
 -- a name that none of the others is, among them one
 apart : (x y : Name) (xs ys : List Name) → has (xs ++ y ∷ ys) x ≡ false → same x y ≡ false
-apart x y xs ys h = or_left_false (same x y) (has ys x) (or_right_false (has xs x) (has (y ∷ ys) x) (sym (has-append xs (y ∷ ys) x) ∙ h))
+apart x y xs ys h = or_left_false _ _ (or_right_false _ _ (sym (has-append xs (y ∷ ys) x) ∙ h))
 
 changed_split : (before : Program) (f g : Fun) (after : Program) → distinct (each (λ h. h.name) (before ++ f ∷ after)) ≡ true →
     each (λ h. pick (same h.name f.name) g h) (before ++ f ∷ after) ≡ before ++ g ∷ after

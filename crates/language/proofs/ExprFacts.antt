@@ -127,7 +127,7 @@ ends_there f zero bs i j bytes e =
     record { exprs = []; count = refl; fit = refl; stands = ap (λ k. drop k bs) (sym (add-zero i)); end = omega arith }
 ends_there zero (suc n) bs i j bytes e = let z : ◌≡◌ {A = ℕ} 0 1 = cc (ends_short bs i (suc n) 0 (omega arith) refl) in absurd (omega arith)
 ends_there (suc f) (suc n) bs i j bytes e =
-    let got = found_some (head_at bs i) (ends_after n f bs) j (sym (ends-turn n f bs i) ∙ e) in
+    let got = found_some _ _ _ (sym (ends-turn n f bs i) ∙ e) in
     let t = got.0 in
     with_head bs i n j t (head-there bs i t bytes got.1)
-    (ends_there f (arity t.head + n) bs t.end j bytes (pick-found (leb (arity t.head + n) (length bs - t.end)) (ends (arity t.head + n) f bs t.end) j got.2).1)
+    (ends_there f (arity t.head + n) bs t.end j bytes (pick-found _ _ _ got.2).1)

@@ -12,7 +12,7 @@ and_three : (a b c : Bool) → (a && (b && c)) ≡ true → (a ≡ true) × (b �
 and_three a b c h = let t = and_parts _ _ h in let u = and_parts _ _ t.1 in (t.0, u.0, u.1)
 
 three_from : (a b c : Bool) → a ≡ true → b ≡ true → c ≡ true → (a && (b && c)) ≡ true
-three_from a b c p q r = and_from a (b && c) p (and_from b c q r)
+three_from a b c p q r = and_from _ _ p (and_from _ _ q r)
 
 pub pick_true : {A : Type 0} (P : A → Bool) (t : Bool) (a b : A) → P a ≡ true → P b ≡ true → P (pick t a b) ≡ true
 pick_true P true a b h k = h
@@ -55,12 +55,12 @@ fit_choice c a b o p q = three_from (an_expr c) (an_expr a) (an_expr b) o p q
 
 pub fit_call : (f : Name) (es : Exprs) → a_name f ≡ true → leb (count_exprs es) 16 ≡ true → all_exprs es ≡ true → an_expr (call f es) ≡ true
 unfolding an_expr
-fit_call f es o p q = and_from (a_name f && leb (count_exprs es) 16) (all_exprs es) (and_from (a_name f) (leb (count_exprs es) 16) o p) q
+fit_call f es o p q = and_from _ _ (and_from _ _ o p) q
 
 -- 1 to 32 bytes
 pub name_short : (x : Name) → a_name x ≡ true → length x ≤ 32
 name_short x h =
-    leb-true (length x) 32 (and_parts _ _ (and_parts _ _ h).0).1
+    leb-true _ _ (and_parts _ _ (and_parts _ _ h).0).1
 
 pub name-long : (x : Name) → length (with_length x) ≡ length x + 8
 name-long x = omega (arith, length-append (eight (length x)) x, length-eight (length x))

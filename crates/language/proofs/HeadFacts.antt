@@ -57,7 +57,7 @@ module _ (bs : List ℕ) (i n : ℕ) (bytes : all_bytes bs ≡ true) (there : Nu
   name-fits =
       and_from _ _
       (and_from _ _ (le-leb 1 (length (between (i + 8) (i + 8 + n) bs)) (omega (arith, name-length)))
-      (le-leb (length (between (i + 8) (i + 8 + n) bs)) 32 (omega (arith, name-length))))
+      (le-leb _ _ (omega (arith, name-length))))
       (every_take (λ b. ltb b 256) (i + 8 + n - (i + 8)) (drop (i + 8) bs) (every_drop (λ b. ltb b 256) (i + 8) bs bytes))
 
   bytes_stand : Stands bs (i + 8) (between (i + 8) (i + 8 + n) bs)
@@ -75,9 +75,9 @@ module _ (bs : List ℕ) (i n : ℕ) (bytes : all_bytes bs ≡ true) (there : Nu
 
 pub name_there : (bs : List ℕ) (i j : ℕ) → all_bytes bs ≡ true → name_end bs i ≡ Some j → NameThere bs i j
 name_there bs i j bytes e =
-    let got = found_some (number_at bs i) (λ n. pick ((leb 1 n && leb n 32) && leb (i + 8 + n) (length bs)) (Some (i + 8 + n)) None) j e in
+    let got = found_some _ _ _ e in
     let n = got.0 in
-    let kept = pick_some ((leb 1 n && leb n 32) && leb (i + 8 + n) (length bs)) (i + 8 + n) j got.2 in
+    let kept = pick_some _ _ _ got.2 in
     let both = and_parts _ _ kept.0 in
     let sizes = and_parts _ _ both.0 in
     subst (NameThere bs i) kept.1
@@ -105,7 +105,7 @@ call-stands bs i x k fits few h =
     ap (λ o. found o (λ j. pick (ltb j (length bs) && leb (get_or bs j 0) 16) (Some (token (h_call (between (i + 8) j bs) (get_or bs j 0)) (j + 1))) None))
     (name-stands bs i x fits name)
     ∙ ap (λ t. pick t (Some (token (h_call (between (i + 8) (i + 8 + length x) bs) (get_or bs (i + 8 + length x) 0)) (i + 8 + length x + 1))) None)
-    (and_from _ _ (lt-ltb (i + 8 + length x) (length bs) room) (ap (λ b. leb b 16) count ∙ le-leb k 16 few))
+    (and_from _ _ (lt-ltb _ _ room) (ap (λ b. leb b 16) count ∙ le-leb _ _ few))
     ∙ ap₂ (λ y b. Some (token (h_call y b) (i + 8 + length x + 1))) (name_bytes bs i x fits name) count
     ∙ ap (λ j. Some (token (h_call x k) j)) (omega (arith, length_with x, length-append (with_length x) (k ∷ [])))
   where
@@ -124,21 +124,21 @@ call-stands bs i x k fits few h =
 num-stands : (bs : List ℕ) (i n : ℕ) → n < limit → Stands bs i (eight n) → num_at bs i ≡ Some (token (h_num n) (i + 8))
 num-stands bs i n small h =
     ap (λ o. found o (λ m. pick (ltb m limit) (Some (token (h_num m) (i + 8))) None)) (number_stands bs i n (omega arith) h)
-    ∙ ap (λ t. pick t (Some (token (h_num n) (i + 8))) None) (lt-ltb n limit small)
+    ∙ ap (λ t. pick t (Some (token (h_num n) (i + 8))) None) (lt-ltb _ _ small)
 
 bin-stands : (bs : List ℕ) (i k : ℕ) → k < 6 → Stands bs i (k ∷ []) → bin_at bs i ≡ Some (token (h_bin k) (i + 1))
 bin-stands bs i k few h =
-    ap₂ (λ t b. pick (t && ltb b 6) (Some (token (h_bin b) (i + 1))) None) (lt-ltb i (length bs) (omega (arith, stands_in bs i (k ∷ []) (omega arith) h))) (stands_byte bs i k h)
-    ∙ ap (λ t. pick t (Some (token (h_bin k) (i + 1))) None) (lt-ltb k 6 few)
+    ap₂ (λ t b. pick (t && ltb b 6) (Some (token (h_bin b) (i + 1))) None) (lt-ltb _ _ (omega (arith, stands_in bs i (k ∷ []) (omega arith) h))) (stands_byte bs i k h)
+    ∙ ap (λ t. pick t (Some (token (h_bin k) (i + 1))) None) (lt-ltb _ _ few)
 
 pub head-stands : (bs : List ℕ) (i : ℕ) (h : Head) → a_head h ≡ true → Stands bs i (head_spelled h) → head_at bs i ≡ Some (token h (i + length (head_spelled h)))
 unfolding a_head head_spelled
 head-stands bs i (h_num n) fits s =
-    first_kind bs i 0 (eight n) s ∙ num-stands bs (i + 1) n (ltb-true n limit fits) (after_kind bs i 0 (eight n) s)
+    first_kind bs i 0 (eight n) s ∙ num-stands bs (i + 1) n (ltb-true _ _ fits) (after_kind bs i 0 (eight n) s)
     ∙ ap (λ j. Some (token (h_num n) j)) (omega (arith, length-eight n))
 head-stands bs i (h_var x) fits s = first_kind bs i 1 (with_length x) s ∙ named_stands h_var bs (i + 1) x fits (after_kind bs i 1 (with_length x) s) ∙ ap (λ j. Some (token (h_var x) j)) (omega arith)
 head-stands bs i (h_bin k) fits s =
-    first_kind bs i 2 (k ∷ []) s ∙ bin-stands bs (i + 1) k (ltb-true k 6 fits) (after_kind bs i 2 (k ∷ []) s) ∙ ap (λ j. Some (token (h_bin k) j)) (omega arith)
+    first_kind bs i 2 (k ∷ []) s ∙ bin-stands bs (i + 1) k (ltb-true _ _ fits) (after_kind bs i 2 (k ∷ []) s) ∙ ap (λ j. Some (token (h_bin k) j)) (omega arith)
 head-stands bs i (h_call x k) fits s =
     first_kind bs i 3 (with_length x ++ k ∷ []) s
     ∙ call-stands bs (i + 1) x k (and_parts _ _ fits).0 (leb-true _ _ (and_parts _ _ fits).1) (after_kind bs i 3 (with_length x ++ k ∷ []) s)
@@ -181,7 +181,7 @@ num-there bs i t bytes e =
 var-there : (bs : List ℕ) (i : ℕ) (t : Token) → all_bytes bs ≡ true → named_at h_var bs i ≡ Some t → RestThere 1 bs i t
 unfolding a_head head_spelled
 var-there bs i t bytes e =
-    let got = found_some (name_end bs i) (λ j. Some (token (h_var (between (i + 8) j bs)) j)) t e in
+    let got = found_some _ _ _ e in
     let n = name_there bs i got.0 bytes got.1 in
     let is : token (h_var (between (i + 8) got.0 bs)) got.0 ≡ t = cc got.2 in
     subst (RestThere 1 bs i) is (record { rest = with_length (between (i + 8) got.0 bs); spelled = refl; fits = n.fits; stands = n.stands; end = n.end })
@@ -189,7 +189,7 @@ var-there bs i t bytes e =
 bind-there : (bs : List ℕ) (i : ℕ) (t : Token) → all_bytes bs ≡ true → named_at h_bind bs i ≡ Some t → RestThere 4 bs i t
 unfolding a_head head_spelled
 bind-there bs i t bytes e =
-    let got = found_some (name_end bs i) (λ j. Some (token (h_bind (between (i + 8) j bs)) j)) t e in
+    let got = found_some _ _ _ e in
     let n = name_there bs i got.0 bytes got.1 in
     let is : token (h_bind (between (i + 8) got.0 bs)) got.0 ≡ t = cc got.2 in
     subst (RestThere 4 bs i) is (record { rest = with_length (between (i + 8) got.0 bs); spelled = refl; fits = n.fits; stands = n.stands; end = n.end })
@@ -197,7 +197,7 @@ bind-there bs i t bytes e =
 bin-there : (bs : List ℕ) (i : ℕ) (t : Token) → bin_at bs i ≡ Some t → RestThere 2 bs i t
 unfolding a_head head_spelled
 bin-there bs i t e =
-    let kept = pick_some (ltb i (length bs) && ltb (get_or bs i 0) 6) (token (h_bin (get_or bs i 0)) (i + 1)) t e in
+    let kept = pick_some _ _ _ e in
     let both = and_parts _ _ kept.0 in
     subst (RestThere 2 bs i) kept.1
     (record { rest = get_or bs i 0 ∷ []; spelled = refl; fits = both.1; stands = byte_stands bs i (ltb-true _ _ both.0); end = refl })
@@ -226,7 +226,7 @@ pub either : {A R : Type 0} (k n : ℕ) (this rest : Option A) (a : A) → (k �
 either {A} {R} k n this rest a yes-it no-it e = go (eqb k n) refl e
   where
     go : (t : Bool) → eqb k n ≡ t → pick t this rest ≡ Some a → R
-    go true h e = yes-it (eqb-true k n h) e
+    go true h e = yes-it (eqb-true _ _ h) e
     go false h e = no-it e
 
 pub head-there : (bs : List ℕ) (i : ℕ) (t : Token) → all_bytes bs ≡ true → head_at bs i ≡ Some t → HeadThere bs i t
@@ -246,7 +246,7 @@ head-there bs i t bytes e =
     k = get_or bs i 0
 
     here : i < length bs
-    here = ltb-true i (length bs) (pick-found (ltb i (length bs)) (kind_at (get_or bs i 0) bs (i + 1)) t e).0
+    here = ltb-true _ _ (pick-found _ _ _ e).0
 
     alone : (n : ℕ) (h : Head) → head_spelled h ≡ n ∷ [] → a_head h ≡ true → Some (token h (i + 1)) ≡ Some t → RestThere n bs (i + 1) t
     alone n h p q e =

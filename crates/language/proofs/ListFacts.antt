@@ -9,7 +9,7 @@ module _ {A : Type 0} (p : A → Bool) where
   every_take zero xs h = refl
   every_take (suc n) [] h = refl
   every_take (suc n) (x ∷ xs) h =
-      let q = and_parts _ _ h in and_from (p x) (every p (take n xs)) q.0 (every_take n xs q.1)
+      let q = and_parts _ _ h in and_from _ _ q.0 (every_take n xs q.1)
 
   pub every_drop : (n : ℕ) (xs : List A) → every p xs ≡ true → every p (drop n xs) ≡ true
   every_drop zero xs h = h
@@ -36,19 +36,19 @@ module _ {A : Type 0} (p : A → Bool) where
       both = and_parts _ _ h
 
       go : (t : Bool) → every p (those q xs) ≡ true → every p (pick t (x ∷ those q xs) (those q xs)) ≡ true
-      go true ih = and_from (p x) (every p (those q xs)) both.0 ih
+      go true ih = and_from _ _ both.0 ih
       go false ih = ih
 
 pub every_so : {A : Type 0} (p q : A → Bool) → ((x : A) → p x ≡ true → q x ≡ true) → (xs : List A) → every p xs ≡ true → every q xs ≡ true
 every_so p q h [] k = refl
 every_so p q h (x ∷ xs) k =
-    let both = and_parts _ _ k in and_from (q x) (every q xs) (h x both.0) (every_so p q h xs both.1)
+    let both = and_parts _ _ k in and_from _ _ (h x both.0) (every_so p q h xs both.1)
 
 pub every-each : {A B : Type 0} (p : A → Bool) (q : B → Bool) (f : A → B) → ((x : A) → p x ≡ true → q (f x) ≡ true) → (xs : List A) → every p xs ≡ true →
     every q (each f xs) ≡ true
 every-each p q f h [] k = refl
 every-each p q f h (x ∷ xs) k =
-    let both = and_parts _ _ k in and_from (q (f x)) (every q (each f xs)) (h x both.0) (every-each p q f h xs both.1)
+    let both = and_parts _ _ k in and_from _ _ (h x both.0) (every-each p q f h xs both.1)
 
 pub each_long : {A B : Type 0} (f : A → B) (xs : List A) → length (each f xs) ≡ length xs
 each_long f [] = refl
@@ -87,7 +87,7 @@ written_all xs row old k n e l p = e ∙ ap₂ ◌++◌ (take_all k xs (omega ar
 -- what holds of every element, by its place
 pub every_from : {A : Type 0} (p : A → Bool) (d : A) (xs : List A) → ((k : ℕ) → k < length xs → p (get_or xs k d) ≡ true) → every p xs ≡ true
 every_from p d [] h = refl
-every_from p d (x ∷ xs) h = and_from (p x) (every p xs) (h 0 (omega arith)) (every_from p d xs (λ k l. h (suc k) (omega arith)))
+every_from p d (x ∷ xs) h = and_from _ _ (h 0 (omega arith)) (every_from p d xs (λ k l. h (suc k) (omega arith)))
 
 pub every-at : {A : Type 0} (p : A → Bool) (d : A) (xs : List A) → every p xs ≡ true → (k : ℕ) → k < length xs → p (get_or xs k d) ≡ true
 every-at p d [] h k l = absurd (omega arith)

@@ -9,7 +9,7 @@ use Rattle.language.specs.Names.{has, joined, less}
 pub same_refl : (x : Name) → same x x ≡ true
 unfolding same
 same_refl [] = refl
-same_refl (b ∷ bs) = and_from _ _ (eq-eqb b b refl) (same_refl bs)
+same_refl (b ∷ bs) = and_from _ _ (eq-eqb _ _ refl) (same_refl bs)
 
 pub same_eq : (x y : Name) → same x y ≡ true → x ≡ y
 unfolding same
@@ -17,7 +17,7 @@ same_eq [] [] h = refl
 same_eq [] (y ∷ ys) h = absurd (clash h)
 same_eq (x ∷ xs) [] h = absurd (clash h)
 same_eq (x ∷ xs) (y ∷ ys) h =
-    ap₂ ◌∷◌ (eqb-true x y (and_parts _ _ h).0) (same_eq xs ys (and_parts _ _ h).1)
+    ap₂ ◌∷◌ (eqb-true _ _ (and_parts _ _ h).0) (same_eq xs ys (and_parts _ _ h).1)
 
 pub same_sym : (x y : Name) → same x y ≡ same y x
 same_sym x y = go (same x y) (same y x) refl refl

@@ -34,8 +34,8 @@ pub near_out : (zs ys : List Name) (x : Name) (k : ℕ) → has zs x ≡ false �
 unfolding how_near
 near_out [] ys x k h = ap (how_near ys x) (omega arith)
 near_out (z ∷ zs) ys x k h =
-    ap (λ t. pick t (k ∷ []) (how_near (zs ++ ys) x (suc k))) (same_sym z x ∙ or_left_false (same x z) (has zs x) h)
-    ∙ near_out zs ys x (suc k) (or_right_false (same x z) (has zs x) h) ∙ ap (how_near ys x) (omega arith)
+    ap (λ t. pick t (k ∷ []) (how_near (zs ++ ys) x (suc k))) (same_sym z x ∙ or_left_false _ _ h)
+    ∙ near_out zs ys x (suc k) (or_right_false _ _ h) ∙ ap (how_near ys x) (omega arith)
 
 -- no bind is nearer than where the count begins
 pub near_low : (ys : List Name) (x : Name) (k j : ℕ) (js : List ℕ) → how_near ys x k ≡ j ∷ js → k ≤ j

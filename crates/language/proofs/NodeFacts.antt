@@ -64,7 +64,7 @@ pub head-fits : (e : Expr) → an_expr e ≡ true → (a_head (head_of e) ≡ tr
 head-fits e h = and_parts _ _ (sym (fits_node e) ∙ h)
 
 pub node_fits : (e : Expr) → a_head (head_of e) ≡ true → every an_expr (parts e) ≡ true → an_expr e ≡ true
-node_fits e h k = fits_node e ∙ and_from (a_head (head_of e)) (every an_expr (parts e)) h k
+node_fits e h k = fits_node e ∙ and_from _ _ h k
 
 pub record Node (h : Head) (es : List Expr) : Type 0 where
   pub made : Expr

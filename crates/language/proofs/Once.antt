@@ -80,7 +80,7 @@ exprs_once (suc n) bs i (e ∷ es) (d ∷ ds) h k l s t m = all_same n bs (exprs
 pub expr_once : (bs : List ℕ) → Once bs expr_spelled an_expr
 expr_once bs i a b h k s t =
     ap (λ es. get_or es 0 (num 0))
-    (exprs_once (suc (length bs)) bs i (a ∷ []) (b ∷ []) (and_from (an_expr a) true h refl) (and_from (an_expr b) true k refl) refl
+    (exprs_once (suc (length bs)) bs i (a ∷ []) (b ∷ []) (and_from _ _ h refl) (and_from _ _ k refl) refl
     (subst (Stands bs i) (sym (append-nil (expr_spelled a))) s) (subst (Stands bs i) (sym (append-nil (expr_spelled b))) t) (omega arith))
 
 -- one thing and then another; so many things
@@ -115,7 +115,7 @@ params_once : (bs : List ℕ) → Once bs params_spelled some_params
 params_once bs i xs ys h k s t =
     let p = and_parts _ _ h in
     let q = and_parts _ _ k in
-    counted_once bs with_length a_name (name_once bs) i xs ys (omega (arith, leb-true (length xs) 16 p.0)) (omega (arith, leb-true (length ys) 16 q.0)) p.1 q.1 s t
+    counted_once bs with_length a_name (name_once bs) i xs ys (omega (arith, leb-true _ _ p.0)) (omega (arith, leb-true _ _ q.0)) p.1 q.1 s t
 
 pub fun_once : (bs : List ℕ) → Once bs fun_spelled a_fun
 fun_once bs i f g h k s t =
@@ -143,5 +143,5 @@ program_once p q h k e =
     let a1 = and_parts _ _ a.0 in
     let b = and_parts _ _ k in
     let b1 = and_parts _ _ b.0 in
-    counted_once (program_spelled p) fun_spelled a_fun (fun_once (program_spelled p)) 0 p q (omega (arith, leb-true (length p) 1024 a1.0)) (omega (arith, leb-true (length q) 1024 b1.0)) a1.1 b1.1
+    counted_once (program_spelled p) fun_spelled a_fun (fun_once (program_spelled p)) 0 p q (omega (arith, leb-true _ _ a1.0)) (omega (arith, leb-true _ _ b1.0)) a1.1 b1.1
     (whole-stands (program_spelled p)) (subst (λ r. Stands (program_spelled p) 0 r) e (whole-stands (program_spelled p)))

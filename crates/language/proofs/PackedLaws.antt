@@ -61,7 +61,7 @@ module _ (bs : List ℕ) (bytes : all_bytes bs ≡ true) where
 
   words_small : (ks : List ℕ) → every (λ w. ltb w 18446744073709551616) (map (word_of bs) ks) ≡ true
   words_small [] = refl
-  words_small (k ∷ ks) = and_from _ _ (lt-ltb (word_of bs k) 18446744073709551616 (word_small k)) (words_small ks)
+  words_small (k ∷ ks) = and_from _ _ (lt-ltb _ _ (word_small k)) (words_small ks)
 
   pub packed-small : every (λ w. ltb w 18446744073709551616) (packed bs) ≡ true
   unfolding packed

@@ -76,7 +76,7 @@ module _ (bs : List ℕ) (i : ℕ) (e : Expr) (fit : an_expr e ≡ true) (s : St
     place-part =
         place-turn bs k ks i (token (head_of e) (i + length (head_spelled (head_of e)))) (head_read bs i e fit s)
         ∙ ap₂ (λ t o. pick t (found o (λ j. place_at bs ks j)) None)
-        (lt-ltb k (arity (head_of e)) (omega (arith, nth_below (parts e) k c cs h, parts-arity e))) before-skipped
+        (lt-ltb _ _ (omega (arith, nth_below (parts e) k c cs h, parts-arity e))) before-skipped
 
 -- where nothing stands, none is found
 pub place_none : (bs ks : List ℕ) (i : ℕ) (e : Expr) → an_expr e ≡ true → Stands bs i (expr_spelled e) → at_place e ks ≡ [] → place_at bs ks i ≡ None

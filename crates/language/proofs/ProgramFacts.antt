@@ -111,7 +111,7 @@ module _ (bs : List ℕ) (bytes : all_bytes bs ≡ true) where
   expr_reads =
       record {
         read = λ i e h s.
-            ends_stand (length bs) bs i (e ∷ []) (and_from (an_expr e) true h refl) (subst (Stands bs i) (sym (append-nil (expr_spelled e))) s) (omega arith)
+            ends_stand (length bs) bs i (e ∷ []) (and_from _ _ h refl) (subst (Stands bs i) (sym (append-nil (expr_spelled e))) s) (omega arith)
             ∙ ap (λ r. Some (i + length r)) (append-nil (expr_spelled e));
         was = λ i j e. one_expr i j (ends_there (length bs) 1 bs i j bytes e);
       }
@@ -275,7 +275,7 @@ program_read p bytes fit =
 
     read : times (length p) (fun_end (program_spelled p)) 8 ≡ Some (8 + length (flat fun_spelled p))
     read =
-        (funs_read (program_spelled p) bytes (length p)).read 8 p (and_from _ _ (program_parts p fit).1 (eq-eqb (length p) (length p) refl))
+        (funs_read (program_spelled p) bytes (length p)).read 8 p (and_from _ _ (program_parts p fit).1 (eq-eqb _ _ refl))
         (program_funs p fit)
 
     ends : 8 + length (flat fun_spelled p) ≡ length (program_spelled p)

@@ -47,13 +47,13 @@ fun-fits f h =
     let outer = and_parts _ _ h in
     let inner = and_parts _ _ outer.0 in
     let own = and_parts _ _ inner.1 in
-    (inner.0, leb-true (length f.params) 16 own.0, own.1, outer.1)
+    (inner.0, leb-true _ _ own.0, own.1, outer.1)
 
 pub fit_fun : (f : Fun) → a_name f.name ≡ true → length f.params ≤ 16 → every a_name f.params ≡ true → an_expr f.body ≡ true → a_fun f ≡ true
 fit_fun f named few own body =
-    and_from (a_name f.name && (leb (length f.params) 16 && every a_name f.params)) (an_expr f.body)
-    (and_from (a_name f.name) (leb (length f.params) 16 && every a_name f.params) named
-    (and_from (leb (length f.params) 16) (every a_name f.params) (le-leb (length f.params) 16 few) own))
+    and_from _ _
+    (and_from _ _ named
+    (and_from _ _ (le-leb _ _ few) own))
     body
 
 pub program_fits : (p : Program) → a_program p ≡ true →
@@ -61,12 +61,12 @@ pub program_fits : (p : Program) → a_program p ≡ true →
 program_fits p h =
     let outer = and_parts _ _ h in
     let inner = and_parts _ _ outer.0 in
-    (leb-true (length p) 1024 inner.0, inner.1, leb-true (length (program_spelled p)) 65536 outer.1)
+    (leb-true _ _ inner.0, inner.1, leb-true _ _ outer.1)
 
 pub fit_program : (p : Program) → length p ≤ 1024 → every a_fun p ≡ true → length (program_spelled p) ≤ 65536 → a_program p ≡ true
 fit_program p few funs short =
-    and_from (leb (length p) 1024 && every a_fun p) (leb (length (program_spelled p)) 65536)
-    (and_from (leb (length p) 1024) (every a_fun p) (le-leb (length p) 1024 few) funs) (le-leb (length (program_spelled p)) 65536 short)
+    and_from _ _
+    (and_from _ _ (le-leb _ _ few) funs) (le-leb _ _ short)
 
 -- the function that is found, of a program that fits
 pub found-fits : (p : Program) (x : Name) (f : Fun) (fs : List Fun) → a_program p ≡ true → fun_of p x ≡ f ∷ fs →

@@ -107,7 +107,7 @@ called_reach n p q (f ∷ fs) (g ∷ gs) h (cames vs ts) C r =
         (λ m. pick t (after_telling ts (eval m q (binds g.params vs) g.body)) (wrong 3 ts))
     go true e =
         after_reach ts (eval n p (binds f.params vs) f.body) (λ m. eval m q (binds g.params vs) g.body)
-        (h.1 vs (eqb-true (length vs) (length f.params) e))
+        (h.1 vs (eqb-true _ _ e))
     go false e = still (wrong 3 ts)
 called_reach n p q (f ∷ fs) (g ∷ gs) h (wrongs i ts) C r = record { from = r.from; under = λ k l. rw (r.under k l) refl }
 called_reach n p q (f ∷ fs) (g ∷ gs) h deeps C r = reach_deep (λ m. called (λ cs e. eval m q cs e) (g ∷ gs) (C m))

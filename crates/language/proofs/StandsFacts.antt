@@ -70,7 +70,7 @@ number_eight_back a b c d e f g h p q r s t u v w =
 
 pub bytes_below : (bs : List ℕ) → all_bytes bs ≡ true → (i : ℕ) → get_or bs i 0 < 256
 bytes_below [] h i = omega arith
-bytes_below (b ∷ bs) h zero = ltb-true b 256 (and_parts _ _ h).0
+bytes_below (b ∷ bs) h zero = ltb-true _ _ (and_parts _ _ h).0
 bytes_below (b ∷ bs) h (suc i) = bytes_below bs (and_parts _ _ h).1 i
 
 pub number_stands : (bs : List ℕ) (i n : ℕ) → n < 18446744073709551616 → Stands bs i (eight n) → number_at bs i ≡ Some n
