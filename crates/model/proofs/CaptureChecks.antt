@@ -87,34 +87,34 @@ none_at (p ∷ ps) (suc i) h = omega (arith, none_at ps i h)
 apart : (left right : List Name) (x p : Name) → has (left ++ x ∷ right) p ≡ false → (has left p ≡ false) × (same p x ≡ false) × (has right p ≡ false)
 apart left right x p h =
     let split = sym (has-append left (x ∷ right) p) ∙ h in
-    let behind = or_right_false (has left p) (or (same p x) (has right p)) split in (
-      or_left_false (has left p) (or (same p x) (has right p)) split,
-      or_left_false (same p x) (has right p) behind,
-      or_right_false (same p x) (has right p) behind,
+    let behind = or_right_false _ _ split in (
+      or_left_false _ _ split,
+      or_left_false _ _ behind,
+      or_right_false _ _ behind,
     )
 
 none_before : (left right : List Name) (x : Name) → distinct (left ++ x ∷ right) ≡ true → has left x ≡ false
 unfolding distinct
 none_before [] right x d = refl
 none_before (p ∷ left) right x d =
-    let both = and_parts (not (has (left ++ x ∷ right) p)) (distinct (left ++ x ∷ right)) d in
-    let other = (apart left right x p (not-true (has (left ++ x ∷ right) p) both.0)).1 in
+    let both = and_parts _ _ d in
+    let other = (apart left right x p (not-true _ both.0)).1 in
     ap (λ t. or t (has left x)) (same_sym x p ∙ other) ∙ none_before left right x both.1
 
 -- another name in x's stead: different from all the others is what it has to be
 distinct_put : (left right : List Name) (x y : Name) → distinct (left ++ x ∷ right) ≡ true → distinct (left ++ y ∷ right) ≡ not (has (left ++ right) y)
 unfolding distinct
 distinct_put [] right x y d =
-    ap (λ t. not (has right y) && t) (and_parts (not (has right x)) (distinct right) d).1 ∙ and-true (not (has right y))
+    ap (λ t. not (has right y) && t) (and_parts _ _ d).1 ∙ and-true (not (has right y))
 distinct_put (p ∷ left) right x y d =
     ap₂ (λ s t. not s && t) only_y (distinct_put left right x y both.1) ∙ not_or (same y p) (has (left ++ right) y)
   where
     both : (not (has (left ++ x ∷ right) p) ≡ true) × (distinct (left ++ x ∷ right) ≡ true)
-    both = and_parts (not (has (left ++ x ∷ right) p)) (distinct (left ++ x ∷ right)) d
+    both = and_parts _ _ d
 
     only_y : has (left ++ y ∷ right) p ≡ same y p
     only_y =
-        let other = apart left right x p (not-true (has (left ++ x ∷ right) p) both.0) in
+        let other = apart left right x p (not-true _ both.0) in
         has-append left (y ∷ right) p ∙ ap₂ (λ s t. or s (or (same p y) t)) other.0 other.2 ∙ or_false (same p y) ∙ same_sym p y
 
 module _ (left right : List Name) (body : Expr) (x y : Name) where
@@ -135,7 +135,7 @@ module _ (left right : List Name) (body : Expr) (x y : Name) where
       (alike_says old new body (renamed x y body) fit (renamed_fit body x y fit_y fit) few (few-new few) (omega arith)
       (omega (arith, renamed-long body x y (name_short y fit_y))))
       (clear-renamed body x y right left (none_before left right x apart-all)
-      (or_left_false (has left y) (has right y) (sym (has-append left right y) ∙ other)))
+      (or_left_false _ _ (sym (has-append left right y) ∙ other)))
 
   own_split : an_expr body ≡ true → a_name y ≡ true → length old ≤ 16 → length (expr_spelled body) ≤ 65536 → distinct old ≡ true →
       (distinct new && alike old body new (renamed x y body)) ≡ (not (has (left ++ right) y) && clear x y false false body)

@@ -137,7 +137,7 @@ module _ (x y : Name) (outer zs : List Name) where
     where
       go : (t : Bool) → (same x z && not (has zs x)) ≡ t →
           Says (pick t (not (has zs y)) (not (same y z && not (has zs y)))) (near (zs ++ x ∷ outer) z ≡ near (zs ++ y ∷ outer) (pick t y z))
-      go true e = let both = and_parts (same x z) (not (has zs x)) e in renamed_says z both.0 (not-true (has zs x) both.1)
+      go true e = let both = and_parts _ _ e in renamed_says z both.0 (not-true _ both.1)
       go false e = other_says z e
 
 choice_says : (r s t : Bool) {a b c d e f : Bare} → Says r (a ≡ d) → Says s (b ≡ e) → Says t (c ≡ f) →

@@ -38,7 +38,7 @@ module _ (w : Plain) (x : Name) (f : Fun) (fs : List Fun) (fit : a_program w.now
   unfolding turn at_first_fun param_renamed
   param_turn is_fine i z zs stands =
       let own = found-fits w.now x f fs fit found in
-      let AllApart = (and_parts (distinct (names_of w.now)) (every (λ g. distinct g.params) w.now) is_fine).1 in
+      let AllApart = (and_parts _ _ is_fine).1 in
       let apart = found-every (λ g. distinct g.params) w.now x f fs AllApart found in
       ap (λ gs. at_first_fun w gs (λ g. param_renamed w g i y (nth_name g.params i))) found
       ∙ ap (param_renamed w f i y) stands

@@ -67,7 +67,7 @@ module _ (r : Program) (y : Name) (e : Expr) (gs : List Fun) (found : fun_of r y
       unfold eval step in
       ap₂ (called (λ cs c. eval (suc n) r cs c)) found (vs.run n)
       ∙ unfold called in pick_left (eqb (length vs.values) (length (free e))) _ (wrong 3 [])
-      (eq-eqb (length vs.values) (length (free e)) vs.as_many)
+      (eq-eqb _ _ vs.as_many)
       ∙ after_none (eval (suc n) r (binds (free e) vs.values) e)
       ∙ eval_agree (suc n) r (binds (free e) vs.values) ds e vs.agree
     where
@@ -111,7 +111,7 @@ added_mean p g new =
     y = g.name
 
     not_main : same y main ≡ false
-    not_main = or_left_false (same y main) (or (there p y) (any (calling y) p)) new
+    not_main = or_left_false _ _ new
 
     not_known : or (there p y) (any (calling y) p) ≡ false
     not_known = or_right_false (same y main) (or (there p y) (any (calling y) p)) new
@@ -134,7 +134,7 @@ module _ (p : Program) (f : Fun) (fs : List Fun) (found : fun_of p f.name ≡ f 
   calling_it = with_body f (put_at f.body ks (call y (vars (free e))))
 
   not_there : there p y ≡ false
-  not_there = or_left_false (there p y) (any (calling y) p) (or_right_false (same y main) (or (there p y) (any (calling y) p)) new)
+  not_there = or_left_false _ _ (or_right_false _ _ new)
 
   other : same y f.name ≡ false
   other = go (same y f.name) refl

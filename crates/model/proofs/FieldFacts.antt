@@ -29,7 +29,7 @@ front_is bs p j s e = s ∙ ap (λ k. p ++ drop k bs) (sym e)
 
 name_was : (bs : List ℕ) (f : Field) → all_bytes bs ≡ true → name_in bs ≡ Some f → (a_name f.value ≡ true) × (bs ≡ with_length f.value ++ f.rest) × (all_bytes f.rest ≡ true)
 name_was bs f bytes e =
-    let got = found_some (name_end bs 0) (λ j. Some (field (between 8 j bs) (drop j bs))) f e in
+    let got = found_some _ _ _ e in
     let j = got.0 in
     let n = name_there bs 0 j bytes got.1 in
     let is : field (between 8 j bs) (drop j bs) ≡ f = cc got.2 in
@@ -60,9 +60,9 @@ index_read (i ∷ k ∷ ks) rest h = absurd (clash h)
 index_was : (bs : List ℕ) (f : Field) → all_bytes bs ≡ true → index_in bs ≡ Some f → (an_index f.value ≡ true) × (bs ≡ f.value ++ f.rest) × (all_bytes f.rest ≡ true)
 index_was [] f bytes e = let z : ◌≡◌ {A = ℕ} 0 1 = cc in absurd (omega arith)
 index_was (i ∷ bs) f bytes e =
-    let kept = pick_some (ltb i 16) (field (i ∷ []) bs) f e in
+    let kept = pick_some _ _ _ e in
     subst (λ (g : Field). (an_index g.value ≡ true) × (i ∷ bs ≡ g.value ++ g.rest) × (all_bytes g.rest ≡ true)) kept.1
-    (kept.0, refl, (and_parts (ltb i 256) (all_bytes bs) bytes).1)
+    (kept.0, refl, (and_parts _ _ bytes).1)
 
 pub index_fields : Fields index_in (λ x. x) an_index
 index_fields = record { read = index_read; was = index_was }
@@ -81,7 +81,7 @@ module _ (ks rest : List ℕ) (fit : a_place ks ≡ true) where
   place-long = omega (arith, length-append (eight (length ks)) ks, length-eight (length ks))
 
   few : length ks ≤ 4096
-  few = leb-true _ _ (and_parts (leb (length ks) 4096) (every (λ k. ltb k 16) ks) fit).0
+  few = leb-true _ _ (and_parts _ _ fit).0
 
   place_read : place_in (place_spelled ks ++ rest) ≡ Some (field ks rest)
   place_read =
@@ -92,7 +92,7 @@ module _ (ks rest : List ℕ) (fit : a_place ks ≡ true) where
     where
       test : ((leb (length ks) 4096 && leb (8 + length ks) (length (place_spelled ks ++ rest))) && every (λ k. ltb k 16) (between 8 (8 + length ks) (place_spelled ks ++ rest))) ≡ true
       test =
-          and_from _ _ (and_from _ _ (le-leb _ _ few) (le-leb (8 + length ks) (length (place_spelled ks ++ rest)) (omega (arith, place-long, length-append (place_spelled ks) rest))))
+          and_from _ _ (and_from _ _ (le-leb _ _ few) (le-leb _ _ (omega (arith, place-long, length-append (place_spelled ks) rest))))
           (ap (every (λ k. ltb k 16)) place_numbers ∙ (and_parts (leb (length ks) 4096) (every (λ k. ltb k 16) ks) fit).1)
 
 module _ (bs : List ℕ) (n : ℕ) (there : NumberThere bs 0 n) (room : 8 + n ≤ length bs) where
@@ -112,11 +112,11 @@ module _ (bs : List ℕ) (n : ℕ) (there : NumberThere bs 0 n) (room : 8 + n �
 
 place_was : (bs : List ℕ) (f : Field) → all_bytes bs ≡ true → place_in bs ≡ Some f → (a_place f.value ≡ true) × (bs ≡ place_spelled f.value ++ f.rest) × (all_bytes f.rest ≡ true)
 place_was bs f bytes e =
-    let got = found_some (number_at bs 0) (λ n. place_of n bs) f e in
+    let got = found_some _ _ _ e in
     let n = got.0 in
-    let kept = pick_some ((leb n 4096 && leb (8 + n) (length bs)) && every (λ k. ltb k 16) (between 8 (8 + n) bs)) (field (between 8 (8 + n) bs) (drop (8 + n) bs)) f got.2 in
-    let all = and_parts (leb n 4096 && leb (8 + n) (length bs)) (every (λ k. ltb k 16) (between 8 (8 + n) bs)) kept.0 in
-    let sizes = and_parts (leb n 4096) (leb (8 + n) (length bs)) all.0 in
+    let kept = pick_some _ _ _ got.2 in
+    let all = and_parts _ _ kept.0 in
+    let sizes = and_parts _ _ all.0 in
     let there = number_there bs 0 n bytes got.1 in
     let room : 8 + n ≤ length bs = leb-true _ _ sizes.1 in
     subst (λ (g : Field). (a_place g.value ≡ true) × (bs ≡ place_spelled g.value ++ g.rest) × (all_bytes g.rest ≡ true)) kept.1 (

@@ -26,26 +26,26 @@ abbrev own_apart : Program → Bool
 own_apart p = every (λ f. distinct f.params) p
 
 fine-parts : (p : Program) → fine p ≡ true → (distinct (names_of p) ≡ true) × (own_apart p ≡ true)
-fine-parts p h = and_parts (distinct (names_of p)) (own_apart p) h
+fine-parts p h = and_parts _ _ h
 
 fine_from : (p : Program) → distinct (names_of p) ≡ true → own_apart p ≡ true → fine p ≡ true
-fine_from p h k = and_from (distinct (names_of p)) (own_apart p) h k
+fine_from p h k = and_from _ _ h k
 
 -- a name more, which is none of the others
 distinct_push : (xs : List Name) (y : Name) → distinct xs ≡ true → has xs y ≡ false → distinct (xs ++ y ∷ []) ≡ true
 unfolding distinct
 distinct_push [] y h new = refl
 distinct_push (x ∷ xs) y h new =
-    and_from (not (has (xs ++ y ∷ []) x)) (distinct (xs ++ y ∷ [])) (not_from_false _ apart)
-    (distinct_push xs y both.1 (or_right_false (same y x) (has xs y) new))
+    and_from _ _ (not_from_false _ apart)
+    (distinct_push xs y both.1 (or_right_false _ _ new))
   where
     both : (not (has xs x) ≡ true) × (distinct xs ≡ true)
-    both = and_parts (not (has xs x)) (distinct xs) h
+    both = and_parts _ _ h
 
     apart : has (xs ++ y ∷ []) x ≡ false
     apart =
-        has-append xs (y ∷ []) x ∙ ap (λ t. or t (or (same x y) false)) (not-true (has xs x) both.0) ∙ or_false (same x y) ∙ same_sym x y
-        ∙ or_left_false (same y x) (has xs y) new
+        has-append xs (y ∷ []) x ∙ ap (λ t. or t (or (same x y) false)) (not-true _ both.0) ∙ or_false (same x y) ∙ same_sym x y
+        ∙ or_left_false _ _ new
 
 distinct-joined : (xs ys : List Name) → distinct xs ≡ true → distinct (joined xs ys) ≡ true
 unfolding joined
@@ -105,10 +105,10 @@ push_fine : (p : Program) (g : Fun) → fine p ≡ true → has (names_of p) g.n
 push_fine p g h new k =
     let was = fine-parts p h in
     fine_from (p ++ g ∷ []) (ap distinct (each_append (λ f. f.name) p (g ∷ [])) ∙ distinct_push (names_of p) g.name was.0 new)
-    (every_append (λ f. distinct f.params) p (g ∷ []) was.1 (and_from (distinct g.params) true k refl))
+    (every_append (λ f. distinct f.params) p (g ∷ []) was.1 (and_from _ _ k refl))
 
 free-name : (p : Program) (y : Name) → taken p y ≡ false → there p y ≡ false
-free-name p y h = or_left_false (there p y) (any (calling y) p) (or_right_false (same y main) (or (there p y) (any (calling y) p)) h)
+free-name p y h = or_left_false _ _ (or_right_false _ _ h)
 
 -- a function called something else: its new name is as different from the others as its old one
 renamed-has : (p : Program) (x y n : Name) → there p y ≡ false → same n y ≡ false →
@@ -126,8 +126,8 @@ unfolding distinct
 renamed-distinct [] x y new h = refl
 renamed-distinct (f ∷ fs) x y new h =
     let none = none_there f fs y new in
-    let both = and_parts (not (has (names_of fs) f.name)) (distinct (names_of fs)) h in
-    and_from (not (has (names_of (each (fun_renamed x y) fs)) (pick (same f.name x) y f.name))) (distinct (names_of (each (fun_renamed x y) fs)))
+    let both = and_parts _ _ h in
+    and_from _ _
     (ap not (renamed-has fs x y f.name none.1 none.0) ∙ both.0) (renamed-distinct fs x y none.1 both.1)
 
 renamed-fine : (p : Program) (x y : Name) → fine p ≡ true → there p y ≡ false → fine (each (fun_renamed x y) p) ≡ true
@@ -139,10 +139,10 @@ renamed-fine p x y h new =
 -- some functions left out
 those_unnamed : (q : Fun → Bool) (p : Program) (x : Name) → has (names_of p) x ≡ false → has (names_of (those q p)) x ≡ false
 those_unnamed q [] x h = refl
-those_unnamed q (f ∷ fs) x h = go (q f) (those_unnamed q fs x (or_right_false (same x f.name) (has (names_of fs) x) h))
+those_unnamed q (f ∷ fs) x h = go (q f) (those_unnamed q fs x (or_right_false _ _ h))
   where
     go : (t : Bool) → has (names_of (those q fs)) x ≡ false → has (names_of (pick t (f ∷ those q fs) (those q fs))) x ≡ false
-    go true ih = ap₂ or (or_left_false (same x f.name) (has (names_of fs) x) h) ih
+    go true ih = ap₂ or (or_left_false _ _ h) ih
     go false ih = ih
 
 those-distinct : (q : Fun → Bool) (p : Program) → distinct (names_of p) ≡ true → distinct (names_of (those q p)) ≡ true
@@ -151,11 +151,11 @@ those-distinct q [] h = refl
 those-distinct q (f ∷ fs) h = go (q f) (those-distinct q fs both.1)
   where
     both : (not (has (names_of fs) f.name) ≡ true) × (distinct (names_of fs) ≡ true)
-    both = and_parts (not (has (names_of fs) f.name)) (distinct (names_of fs)) h
+    both = and_parts _ _ h
 
     go : (t : Bool) → distinct (names_of (those q fs)) ≡ true → distinct (names_of (pick t (f ∷ those q fs) (those q fs))) ≡ true
     go true ih =
-        and_from (not (has (names_of (those q fs)) f.name)) (distinct (names_of (those q fs)))
+        and_from _ _
         (not_from_false _ (those_unnamed q fs f.name (not-true _ both.0))) ih
     go false ih = ih
 
@@ -193,8 +193,8 @@ stays_fine w c fit is_fine short were-fine were-short = go (turn-ends w c)
     go (goes_back p ps is was) =
         let fine_were = ap (every fine) (sym was) ∙ were-fine in
         let short_were = ap (every (λ q. leb (length (program_spelled q)) 65536)) (sym was) ∙ were-short in (
-          (and_parts (fine p) (every fine ps) fine_were).0,
+          (and_parts _ _ fine_were).0,
           leb-true (length (program_spelled p)) 65536
-              (and_parts (leb (length (program_spelled p)) 65536) (every (λ q. leb (length (program_spelled q)) 65536) ps) short_were).0,
+              (and_parts _ _ short_were).0,
         )
     go (makes p m few small) = (made-fine w c p is_fine m, small)

@@ -12,10 +12,10 @@ use Rattle.model.specs.FunctionNames.{recalled, recalled_all, fun_renamed, calls
 use Rattle.model.proofs.SetFacts.{pick_right}
 
 pub out_left : (xs ys : List Name) (x : Name) → has (joined xs ys) x ≡ false → has xs x ≡ false
-out_left xs ys x h = or_left_false (has xs x) (has ys x) (sym (has-joined xs ys x) ∙ h)
+out_left xs ys x h = or_left_false _ _ (sym (has-joined xs ys x) ∙ h)
 
 pub out_right : (xs ys : List Name) (x : Name) → has (joined xs ys) x ≡ false → has ys x ≡ false
-out_right xs ys x h = or_right_false (has xs x) (has ys x) (sym (has-joined xs ys x) ∙ h)
+out_right xs ys x h = or_right_false _ _ (sym (has-joined xs ys x) ∙ h)
 
 -- nothing in it calls y
 abbrev pub Uncalled : Name → Expr → Type 0
@@ -43,7 +43,7 @@ module _ (x y : Name) (ev ew : Ev) (alike : SameRecalled x y ev ew) where
   called-recalled [] deeps h = refl
   called-recalled (f ∷ fs) (cames vs ts) h =
       ap (λ c. pick (eqb (length vs) (length f.params)) (after_telling ts c) (wrong 3 ts))
-      (alike (binds f.params vs) f.body (or_left_false (calling y f) (any (calling y) fs) h))
+      (alike (binds f.params vs) f.body (or_left_false _ _ h))
   called-recalled (f ∷ fs) (wrongs k ts) h = refl
   called-recalled (f ∷ fs) deeps h = refl
 
@@ -68,7 +68,7 @@ module _ (x y : Name) (p q : Program) (to : Recalls x y p q) where
       ap₂ then in_a (fun_ext λ v. ap (λ c. then c (λ u. reckon k v u)) in_b)
   step-recalled ev ew alike bs (call g es) h =
       calls_same ev ew alike g (eval_all (ev bs) es) (eval_all (ew bs) (recalled_all x y es))
-      (or_left_false (same y g) false (out_left (g ∷ []) (calls_all es) y h))
+      (or_left_false _ _ (out_left (g ∷ []) (calls_all es) y h))
       (all-recalled x y ev ew alike bs es (out_right (g ∷ []) (calls_all es) y h))
   step-recalled ev ew alike bs (bind z a b) h =
       ap₂ then (alike bs a (out_left (calls a) (calls b) y h)) (fun_ext λ v. alike _ b (out_right (calls a) (calls b) y h))

@@ -19,10 +19,10 @@ use Rattle.model.proofs.FunctionNamesFacts.{calling, Recalls, apply-recalled, ea
 pub found_none : (P : Fun → Bool) (p : Program) (x : Name) → any P p ≡ false → any P (fun_of p x) ≡ false
 unfolding fun_of
 found_none P [] x h = refl
-found_none P (f ∷ fs) x h = go (same f.name x) (found_none P fs x (or_right_false (P f) (any P fs) h))
+found_none P (f ∷ fs) x h = go (same f.name x) (found_none P fs x (or_right_false _ _ h))
   where
     go : (t : Bool) → any P (fun_of fs x) ≡ false → any P (pick t (f ∷ []) (fun_of fs x)) ≡ false
-    go true ih = ap (λ t. or t false) (or_left_false (P f) (any P fs) h)
+    go true ih = ap (λ t. or t false) (or_left_false _ _ h)
     go false ih = ih
 
 -- no function is called so: neither the first nor one of the others
@@ -76,7 +76,7 @@ fun_mean w x y = kept-fun w x _ (λ f fs found. kept-pick w (same x main) (no 6 
     means not_main free =
         let new = or_right_false (same y main) (or (there p y) (any (calling y) p)) free in
         let to = renamed_recalls p x y (or_left_false (there p y) (any (calling y) p) new) (or_right_false (there p y) (any (calling y) p) new) in
-        kept-now w q (λ small. mean_same_deep p q (λ n vs. apply-recalled x y p q to n main vs not_main (or_left_false (same y main) _ free)))
+        kept-now w q (λ small. mean_same_deep p q (λ n vs. apply-recalled x y p q to n main vs not_main (or_left_false _ _ free)))
 
     free-name : same x main ≡ false → Kept w (pick (taken p y) (no 4 w) (now_is w q))
     free-name not_main = kept-pick w (taken p y) (no 4 w) (now_is w q) (λ e. kept-refused w 4) (means not_main)
@@ -98,12 +98,12 @@ without_uncalled : (p : Program) (x h : Name) → same x h ≡ false → still_c
 unfolding fun_of
 without_uncalled [] x h other free = refl
 without_uncalled (g ∷ gs) x h other free =
-    go (same g.name h) refl (without_uncalled gs x h other (or_right_false (not (same g.name x) && calling x g) (still_called gs x) free))
+    go (same g.name h) refl (without_uncalled gs x h other (or_right_false _ _ free))
   where
     own : same g.name h ≡ true → calling x g ≡ false
     own e =
         let not_x = ap (λ z. same z x) (same_eq g.name h e) ∙ same_sym h x ∙ other in
-        ap (λ t. not t && calling x g) (sym not_x) ∙ or_left_false (not (same g.name x) && calling x g) (still_called gs x) free
+        ap (λ t. not t && calling x g) (sym not_x) ∙ or_left_false _ _ free
 
     go : (t : Bool) → same g.name h ≡ t → any (calling x) (fun_of gs h) ≡ false → any (calling x) (pick t (g ∷ []) (fun_of gs h)) ≡ false
     go true e ih = ap (λ t. or t false) (own e)
@@ -124,7 +124,7 @@ drop_mean w x =
   where
     means : or (same x main) (still_called w.now x) ≡ false → Kept w (now_is w (without x w.now))
     means free =
-        let not_main = or_left_false (same x main) (still_called w.now x) free in
+        let not_main = or_left_false _ _ free in
         let to = dropped_recalls w.now x (or_right_false (same x main) (still_called w.now x) free) in
         kept-now w (without x w.now)
         (λ small. mean_same_deep w.now (without x w.now) (λ n vs. apply-recalled x x w.now (without x w.now) to n main vs not_main not_main))

@@ -121,7 +121,7 @@ kept_inlined w good f fs found g ks es os stands [] found_called = kept-refused 
 kept_inlined w good f fs found g ks es os stands (h ∷ hs) found_called =
     kept-pick w (eqb (length (exprs_in es)) (length h.params) && every (has h.params) (free h.body))
     (put_if w f ks (binds_of h.params (exprs_in es) h.body)) (no 5 w)
-    (λ t. kept_lets w f fs found g h hs found_called ks es os stands (eqb-true (length (exprs_in es)) (length h.params) (both t).0)
+    (λ t. kept_lets w f fs found g h hs found_called ks es os stands (eqb-true _ _ (both t).0)
     (found-every (λ k. distinct k.params) w.now g h hs params_differ found_called) (both t).1
     (binds_of h.params (exprs_in es) h.body) refl)
     (λ t. kept-refused w 5)
@@ -131,7 +131,7 @@ kept_inlined w good f fs found g ks es os stands (h ∷ hs) found_called =
 
     both : (eqb (length (exprs_in es)) (length h.params) && every (has h.params) (free h.body)) ≡ true →
         (eqb (length (exprs_in es)) (length h.params) ≡ true) × (every (has h.params) (free h.body) ≡ true)
-    both t = and_parts (eqb (length (exprs_in es)) (length h.params)) (every (has h.params) (free h.body)) t
+    both t = and_parts _ _ t
 
 pub call_mean : (w : Plain) (x : Name) (ks : List ℕ) → fine w.now ≡ true → Kept w (turn w (inline_call x ks))
 unfolding turn call_inlined

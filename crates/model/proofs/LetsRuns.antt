@@ -66,7 +66,7 @@ called-all : (ev : Ev) (h : Fun) (hs : List Fun) (c : Cames) → Sized (length h
 unfolding called with_all
 called-all ev h hs (cames vs ts) l =
     pick_left (eqb (length vs) (length h.params)) (after_telling ts (ev (binds h.params vs) h.body)) (wrong 3 ts)
-    (eq-eqb (length vs) (length h.params) l)
+    (eq-eqb _ _ l)
 called-all ev h hs (wrongs i ts) l = refl
 called-all ev h hs deeps l = refl
 
@@ -81,8 +81,8 @@ unfolding bound look
 bound_other [] vs cs y h = refl
 bound_other (x ∷ xs) [] cs y h = refl
 bound_other (x ∷ xs) (v ∷ vs) cs y h =
-    bound_other xs vs (record { name = x; value = v } ∷ cs) y (or_right_false (same y x) (has xs y) h)
-    ∙ pick_right (same x y) (v ∷ []) (look cs y) (same_sym x y ∙ or_left_false (same y x) (has xs y) h)
+    bound_other xs vs (record { name = x; value = v } ∷ cs) y (or_right_false _ _ h)
+    ∙ pick_right (same x y) (v ∷ []) (look cs y) (same_sym x y ∙ or_left_false _ _ h)
 
 -- names that differ have what a call gives them
 bound_agree : (xs : List Name) (vs : List ℕ) (cs : List Bound) → length vs ≡ length xs → distinct xs ≡ true → Agree (bound xs vs cs) (binds xs vs) xs
@@ -90,7 +90,7 @@ unfolding bound look binds distinct
 bound_agree [] vs cs l d y h = absurd (clash h)
 bound_agree (x ∷ xs) [] cs l d y h = absurd (omega arith)
 bound_agree (x ∷ xs) (v ∷ vs) cs l d y h =
-    go (has xs y) refl (bound_agree xs vs (record { name = x; value = v } ∷ cs) (omega arith) (and_parts (not (has xs x)) (distinct xs) d).1 y)
+    go (has xs y) refl (bound_agree xs vs (record { name = x; value = v } ∷ cs) (omega arith) (and_parts _ _ d).1 y)
   where
     go : (t : Bool) → has xs y ≡ t →
         (has xs y ≡ true → look (bound xs vs (record { name = x; value = v } ∷ cs)) y ≡ look (binds xs vs) y) →
@@ -99,7 +99,7 @@ bound_agree (x ∷ xs) (v ∷ vs) cs l d y h =
       where
         apart : (t : Bool) → same x y ≡ t → same x y ≡ false
         apart true k =
-            absurd (clash (sym (not-true (has xs x) (and_parts (not (has xs x)) (distinct xs) d).0) ∙ ap (has xs) (same_eq x y k) ∙ e))
+            absurd (clash (sym (not-true _ (and_parts _ _ d).0) ∙ ap (has xs) (same_eq x y k) ∙ e))
         apart false k = k
     go false e ih =
         let it : same x y ≡ true = same_sym x y ∙ sym (or_false (same y x)) ∙ ap (or (same y x)) (sym e) ∙ h in
@@ -119,8 +119,8 @@ agrees_under : (x : Name) (v : ℕ) (cs ds : List Bound) (es : Exprs) → any (�
     Agrees (record { name = x; value = v } ∷ cs) ds es
 agrees_under x v cs ds no_exprs h a = tt
 agrees_under x v cs ds (expr_and e es) h a = (
-  λ y k. agree_without cs x v (free e) (or_left_false (has (free e) x) (any (λ b. has (free b) x) (exprs_in es)) h) y k ∙ a.0 y k,
-  agrees_under x v cs ds es (or_right_false (has (free e) x) (any (λ b. has (free b) x) (exprs_in es)) h) a.1,
+  λ y k. agree_without cs x v (free e) (or_left_false _ _ h) y k ∙ a.0 y k,
+  agrees_under x v cs ds es (or_right_false _ _ h) a.1,
 )
 
 one_let_forth : (n : ℕ) (r : Program) (ds cs : List Bound) (x : Name) (e c : Expr) (W : ℕ → Came) → Agree cs ds (free e) →

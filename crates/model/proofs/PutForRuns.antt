@@ -111,7 +111,7 @@ module _ (r : Program) (x : Name) (a : Expr) (v : ℕ) where
       ends_still : has fs x ≡ true → Ends r (record { name = z; value = w } ∷ cs) a v
       ends_still h =
           subst (λ G. Reach (came v []) G) (fun_ext λ m. sym (free_matter r cs z w m a (free_of (has (free a) z) refl h apart)))
-          (s.ends (has-less z fs x ∙ and_from (not (same z x)) (has fs x) (ap not not_it) h))
+          (s.ends (has-less z fs x ∙ and_from _ _ (ap not not_it) h))
 
   -- where x is given anew, what stands there stays
   same-under : (z : Name) (w : ℕ) (fs : List Name) (bs cs : List Bound) (e : Expr) → same x z ≡ true → Stands r x a v fs bs cs →

@@ -41,8 +41,8 @@ reckon-quiet k v w h = go (eqb k 1) refl h
         by_kind false = (truth (ltb v w), refl)
 
     go : (t : Bool) → eqb k 1 ≡ t → or t (leb 4 k) ≡ true → (u : ℕ) × (reckon k v w ≡ came u [])
-    go true e h = (v - w, ap (λ i. reckon i v w) (eqb-true k 1 e))
-    go false e h = late (leb-true 4 k h)
+    go true e h = (v - w, ap (λ i. reckon i v w) (eqb-true _ _ e))
+    go false e h = late (leb-true _ _ h)
 
 bin-ends : (r : Program) (ds : List Bound) (k : ℕ) (a b : Expr) (v w u : ℕ) → Ends r ds a v → Ends r ds b w → reckon k v w ≡ came u [] →
     Ends r ds (bin k a b) u
@@ -83,8 +83,8 @@ unfolding quiet
 quiet-ends r gs ds g (num n) h = (n, num-ends r ds n h)
 quiet-ends r gs ds g (var x) h = ((g x h).0, var-ends r ds x (g x h).0 (g x h).1)
 quiet-ends r gs ds g (bin k a b) h =
-    let parts = and_parts (or (eqb k 1) (leb 4 k)) (quiet gs a && quiet gs b) h in
-    let both = and_parts (quiet gs a) (quiet gs b) parts.1 in
+    let parts = and_parts _ _ h in
+    let both = and_parts _ _ parts.1 in
     let first = quiet-ends r gs ds g a both.0 in
     let second = quiet-ends r gs ds g b both.1 in
     let whole = reckon-quiet k first.0 second.0 parts.0 in
@@ -92,8 +92,8 @@ quiet-ends r gs ds g (bin k a b) h =
 quiet-ends r gs ds g (call f es) h = absurd (clash h)
 quiet-ends r gs ds g (bind x a b) h = absurd (clash h)
 quiet-ends r gs ds g (choice c a b) h =
-    let parts = and_parts (quiet gs c) (quiet gs a && quiet gs b) h in
-    let both = and_parts (quiet gs a) (quiet gs b) parts.1 in
+    let parts = and_parts _ _ h in
+    let both = and_parts _ _ parts.1 in
     let test = quiet-ends r gs ds g c parts.0 in
     let first = quiet-ends r gs ds g a both.0 in
     let second = quiet-ends r gs ds g b both.1 in (

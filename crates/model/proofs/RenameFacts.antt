@@ -26,7 +26,7 @@ set-bare [] x f fs g d h e = refl
 set-bare (k ∷ ks) x f fs g d h e = go (same k.name x) refl h (λ found. set-bare ks x f fs g apart.1 found e)
   where
     apart : (not (has (names_of ks) k.name) ≡ true) × (distinct (names_of ks) ≡ true)
-    apart = and_parts (not (has (names_of ks) k.name)) (distinct (names_of ks)) d
+    apart = and_parts _ _ d
 
     go : (t : Bool) → same k.name x ≡ t → pick t (k ∷ []) (fun_of ks x) ≡ f ∷ fs →
         (fun_of ks x ≡ f ∷ fs → each bare_fun (set_fun ks x g) ≡ each bare_fun ks) →
@@ -68,7 +68,7 @@ mutual
   renamed_all_fit no_exprs x y fit_y h = refl
   renamed_all_fit (expr_and e es) x y fit_y h =
       let was = exprs_fit e es h in
-      and_from (an_expr (renamed x y e)) (all_exprs (renamed_all x y es)) (renamed_fit e x y fit_y was.0) (renamed_all_fit es x y fit_y was.1)
+      and_from _ _ (renamed_fit e x y fit_y was.0) (renamed_all_fit es x y fit_y was.1)
 
 pub put_name-long : (xs : List Name) (i : ℕ) (y : Name) → length (put_name xs i y) ≡ length xs
 unfolding put_name

@@ -18,7 +18,7 @@ says_map t to from s = (λ e. to (s.0 e), λ q. s.1 (from q))
 
 pub says_and : {P Q R : Type 0} (s t : Bool) → (P → Q → R) → (R → P) → (R → Q) → Says s P → Says t Q → Says (s && t) R
 says_and s t to left right p q =
-    (λ e. to (p.0 (and_parts s t e).0) (q.0 (and_parts s t e).1), λ r. and_from s t (p.1 (left r)) (q.1 (right r)))
+    (λ e. to (p.0 (and_parts _ _ e).0) (q.0 (and_parts _ _ e).1), λ r. and_from _ _ (p.1 (left r)) (q.1 (right r)))
 
 pub says_same : {P : Type 0} (s t : Bool) → Says s P → Says t P → s ≡ t
 says_same true true p q = refl

@@ -100,7 +100,7 @@ module _ (bs : List ℕ) (x y : Name) (h : Bool) (i : ℕ) (ks out : List ℕ) w
       go true c =
           splices_past bs (with_length y) (8 + length x) i (1 ∷ []) ((i + 1) ∷ ks) (with_length y ++ out) (stands-first bs i (1 ∷ []) (with_length z) s)
           (splices_new bs (with_length y) (8 + length x) (i + 1) ks out
-          (subst (λ j. Renames bs x y ks j out) (omega (arith, length_with z, ap length (same_eq x z (and_parts (same x z) (not h) c).0))) r))
+          (subst (λ j. Renames bs x y ks j out) (omega (arith, length_with z, ap length (same_eq x z (and_parts _ _ c).0))) r))
       go false c = head_stays (h_var z) s r
   head_spliced (h_bin k) s r = head_stays (h_bin k) s r
   head_spliced (h_call f k) s r = head_stays (h_call f k) s r

@@ -81,7 +81,7 @@ module _ (w : Plain) (funs : every a_fun w.now ≡ true) where
       ap (every a_fun) m.made
       ∙ every_append a_fun caller (made_fun y e ∷ [])
       (put_funs w.now funs x ks m.at (call y (vars (free e))) (call_vars_fit y (free e) named m.few own))
-      (and_from (a_fun (made_fun y e)) true (fit_fun (made_fun y e) named m.few own fit) refl)
+      (and_from _ _ (fit_fun (made_fun y e) named m.few own fit) refl)
 
   inline_funs : (x : Name) (ks : List ℕ) (p : Program) → MadeInline w x ks p → every a_fun p ≡ true
   inline_funs x ks p m =
@@ -114,14 +114,14 @@ module _ (w : Plain) (funs : every a_fun w.now ≡ true) where
   made_funs (show x) p fit m = absurd m
   made_funs names p fit m = absurd m
   made_funs (rename_bind x ks y) p fit m =
-      bind_funs x ks y p (and_parts (a_name x) (a_name y) (and_parts (a_name x && a_name y) (a_place ks) fit).0).1 m
+      bind_funs x ks y p (and_parts _ _ (and_parts _ _ fit).0).1 m
   made_funs (rename_param x i y) p fit m =
-      param_funs x i y p (and_parts (a_name x) (a_name y) (and_parts (a_name x && a_name y) (ltb i 16) fit).0).1 m
+      param_funs x i y p (and_parts _ _ (and_parts _ _ fit).0).1 m
   made_funs (rename_fun x y) p fit m =
       ap (every a_fun) m.made
-      ∙ every-each a_fun a_fun (fun_renamed x y) (fun_funs x y (and_parts (a_name x) (a_name y) fit).1) w.now funs
+      ∙ every-each a_fun a_fun (fun_renamed x y) (fun_funs x y (and_parts _ _ fit).1) w.now funs
   made_funs (extract x ks y) p fit m =
-      extract_funs x ks y p (and_parts (a_name x) (a_name y) (and_parts (a_name x && a_name y) (a_place ks) fit).0).1 m
+      extract_funs x ks y p (and_parts _ _ (and_parts _ _ fit).0).1 m
   made_funs (inline_bind x ks) p fit m = inline_funs x ks p m
   made_funs (inline_call x ks) p fit m = call_funs x ks p m
   made_funs (turn_cond x ks) p fit m = cond_funs x ks p m
@@ -135,7 +135,7 @@ stays_program w c fit fit-now fit-before = go (turn-ends w c)
     go (refuses k h) = fit-now
     go (looks ss h) = fit-now
     go (loads p is h) = unfold fits in (sym (ap fits is) ∙ fit)
-    go (goes_back p ps is was) = (and_parts (a_program p) (every a_program ps) (ap (every a_program) (sym was) ∙ fit-before)).0
+    go (goes_back p ps is was) = (and_parts _ _ (ap (every a_program) (sym was) ∙ fit-before)).0
     go (makes p m few short) = fit_program p few (made_funs w (program_fits w.now fit-now).1 c p fit m) short
 
 -- What holds of what stands and of what can be gone back to, holds after a turn of what can be gone back to.
@@ -146,8 +146,8 @@ before_stays P w c now-holds before-hold = go (turn-ends w c)
     go (refuses k h) = before-hold
     go (looks ss h) = before-hold
     go (loads p is h) = refl
-    go (goes_back p ps is was) = (and_parts (P p) (every P ps) (ap (every P) (sym was) ∙ before-hold)).1
-    go (makes p m few short) = every_take P 8 (w.now ∷ w.before) (and_from (P w.now) (every P w.before) now-holds before-hold)
+    go (goes_back p ps is was) = (and_parts _ _ (ap (every P) (sym was) ∙ before-hold)).1
+    go (makes p m few short) = every_take P 8 (w.now ∷ w.before) (and_from _ _ now-holds before-hold)
 
 pub before-few : (w : Plain) (c : Command) → length w.before ≤ 8 → length (turn w c).next.before ≤ 8
 before-few w c eight = go (turn-ends w c)

@@ -79,7 +79,7 @@ module _ (x y : Name) (hx hy : Bool) (us : List ℕ) (i : ℕ) (go_on : List ℕ
           found (pick s (pick n None (Some true)) (pick t None (Some false))) (λ c. found (use_listed us (i + 1) c) go_on)
           ≡ pick (pick s (not n) (not t)) (go_on (us ++ pick s ((i + 1) ∷ []) [])) None
       go true true t = refl
-      go true false t = ap (λ b. found (pick b (Some (us ++ (i + 1) ∷ [])) None) go_on) (lt-ltb (length us) most_uses few)
+      go true false t = ap (λ b. found (pick b (Some (us ++ (i + 1) ∷ [])) None) go_on) (lt-ltb _ _ few)
       go false n true = refl
       go false n false = unlisted
   head-listed (h_bin k) = unlisted
@@ -110,10 +110,10 @@ head_is_left : (go_on : Walk → Option (List ℕ)) (i n : ℕ) (s : Scope) (fs 
 head_is_left go_on i zero s fs us few = refl
 head_is_left go_on i (suc zero) s fs us few = refl
 head_is_left go_on i (suc (suc k)) s fs us few =
-    ap (λ b. pick b (go_on (walk (Some (holder i 0)) s (frame (holder i 1) (suc (suc k)) s ∷ fs) us)) None) (lt-ltb (length fs) most_frames few)
+    ap (λ b. pick b (go_on (walk (Some (holder i 0)) s (frame (holder i 1) (suc (suc k)) s ∷ fs) us)) None) (lt-ltb _ _ few)
     ∙ sym
-    (ap (λ b. after_leaf go_on (pick b (frame (holder i 0) (suc (suc k)) s ∷ fs) fs) us) (lt-ltb 0 (suc (suc k)) (omega arith))
-    ∙ ap (λ b. go_on (walk (Some (holder i 0)) s (pick b (frame (holder i 1) (suc (suc k)) s ∷ fs) fs) us)) (lt-ltb 1 (suc (suc k)) (omega arith)))
+    (ap (λ b. after_leaf go_on (pick b (frame (holder i 0) (suc (suc k)) s ∷ fs) fs) us) (lt-ltb _ _ (omega arith))
+    ∙ ap (λ b. go_on (walk (Some (holder i 0)) s (pick b (frame (holder i 1) (suc (suc k)) s ∷ fs) fs) us)) (lt-ltb _ _ (omega arith)))
 
 -- the scope in part p of the node at i
 part-scope : (bs : List ℕ) (x y : Name) (hx hy : Bool) (i p : ℕ) (t : Token) → head_at bs i ≡ Some t →
@@ -174,10 +174,10 @@ module _ (bs : List ℕ) (x y : Name) (i₀ : ℕ) (t : Token) (read : head_at b
       subst (λ b. Goes bs x y (pick b (frame (holder i₀ p) (arity t.head) (scope hx hy) ∷ fs) fs) us j r) (sym (le-ltb p (arity t.head) (omega arith)))
       (goes_same bs x y fs (us ++ []) us (j + 0) j r (append-nil us) (omega arith) go)
   parts_go (e ∷ es) ps p j us count fit s low room go =
-      subst (λ b. Goes bs x y (pick b (frame (holder i₀ p) n sc ∷ fs) fs) us j (pick (clear x y hx₁ hy₁ e && clears) r None)) (sym (lt-ltb p n (omega arith)))
+      subst (λ b. Goes bs x y (pick b (frame (holder i₀ p) n sc ∷ fs) fs) us j (pick (clear x y hx₁ hy₁ e && clears) r None)) (sym (lt-ltb _ _ (omega arith)))
       (subst (Ends bs x y (walk (Some (holder i₀ p)) sc (frames_at i₀ n sc fs (p + 1)) us) j) (pick_and (clear x y hx₁ hy₁ e) clears r None)
       (ps.0 j (Some (holder i₀ p)) sc hx₁ hy₁ (frames_at i₀ n sc fs (p + 1)) us (pick clears r None) both.0 first (part-scope bs x y hx hy i₀ p t read) low
-      (omega (arith, frames-long (ltb (p + 1) n) (frame (holder i₀ (p + 1)) n sc) fs es (λ b. omega (arith, ltb-true (p + 1) n b)), long))
+      (omega (arith, frames-long (ltb (p + 1) n) (frame (holder i₀ (p + 1)) n sc) fs es (λ b. omega (arith, ltb-true _ _ b)), long))
       (parts_go es ps.1 (p + 1) k (us ++ name_uses x hx₁ j e) (omega arith) both.1 (stands-second bs j (expr_spelled e) (flat expr_spelled es) s)
       (omega (arith, length-append us (name_uses x hx₁ j e), uses_nine x e hx₁ j)) (omega (arith, long))
       (goes_same bs x y fs _ _ _ _ r (sym (append_assoc us (name_uses x hx₁ j e) (parts_uses x (given_in x hx t.head) (p + 1) k es)))
@@ -202,7 +202,7 @@ module _ (bs : List ℕ) (x y : Name) (i₀ : ℕ) (t : Token) (read : head_at b
       k = j + length (expr_spelled e)
 
       both : (an_expr e ≡ true) × (every an_expr es ≡ true)
-      both = and_parts (an_expr e) (every an_expr es) fit
+      both = and_parts _ _ fit
 
       first : Stands bs j (expr_spelled e)
       first = stands-first bs j (expr_spelled e) (flat expr_spelled es) s
