@@ -9,7 +9,8 @@ use Rattle.language.specs.Spelling.{expr_spelled, exprs_spelled}
 use Rattle.language.specs.Fits.{a_name, an_expr, all_exprs}
 use Rattle.language.proofs.NameFacts.{same_refl, same_eq}
 use Rattle.language.proofs.NearFacts.{near_below}
-use Rattle.language.proofs.FitFacts.{bin_fit, bind_fit, choice_fit, call_fit, exprs_fit, name_short, var-long, bin-long, call_long, bind-long, choice-long, tell-long, exprs_long}
+use Rattle.language.proofs.HeadFacts.{name_short}
+use Rattle.language.proofs.FitFacts.{bin_fit, bind_fit, choice_fit, call_fit, exprs_fit, var-long, bin-long, call_long, bind-long, choice-long, tell-long, exprs_long}
 use Rattle.language.proofs.Readers.{got, Reader, Spells, spells_once, one_read, both_read, by_tag, one_spells, both_spells, read_eight, eight_spells, read_name, name_spells}
 
 abbrev Below-2^64 : ℕ → Type 0

@@ -16,7 +16,8 @@ use Rattle.language.specs.Contents.{listed, passed, name_there, names_from, own_
 use Rattle.language.proofs.StandsFacts.{Stands, stands-first, stands-second, stands-taken, length-eight, number_stands}
 use Rattle.language.proofs.HeadFacts.{length_with, name-stands, name_bytes}
 use Rattle.language.proofs.ByteFacts.{bytes_program}
-use Rattle.language.proofs.ProgramFacts.{params_spelled, some_params, fun_reads, program_parts, program_number, program_funs}
+use Rattle.language.proofs.ProgramFits.{program_fits}
+use Rattle.language.proofs.ProgramFacts.{params_spelled, some_params, fun_reads, program_number, program_funs}
 use Rattle.language.proofs.ContentsFacts.{names_none, names_more, owns_none, owns_turn, find_none, find_here, find_more}
 
 -- names that stand there are read
@@ -148,7 +149,7 @@ module _ (bs : List ℕ) (bytes : all_bytes bs ≡ true) where
 
       go : (t : Bool) → same f.name x ≡ t → pick t (f ∷ []) (fun_of fs x) ≡ [] →
           (fun_of fs x ≡ [] → find_from (length fs) bs x (i + length (fun_spelled f)) ≡ None) → find_from (suc (length fs)) bs x i ≡ None
-      go true e h ih = let z : ◌≡◌ {A = ℕ} 0 1 = cc in absurd (omega arith)
+      go true e h ih = absurd cc
       go false e h ih =
           find_more bs x i (suc (length fs)) (length fs) refl (i + 8 + length f.name) (i + length (fun_spelled f)) n.name-ends
           (ap (λ y. same y x) n.named ∙ e) n.ends
@@ -198,7 +199,7 @@ module _ (bs : List ℕ) (bytes : all_bytes bs ≡ true) (x : Name) where
   pub find_law_some : (i : ℕ) (fs : List Fun) (f : Fun) (gs : List Fun) → every a_fun fs ≡ true → Stands bs i (flat fun_spelled fs) → fun_of fs x ≡ f ∷ gs →
       FoundAt bs x i fs f
   unfolding fun_of
-  find_law_some i [] f gs fit s h = let z : ◌≡◌ {A = ℕ} 0 1 = cc in absurd (omega arith)
+  find_law_some i [] f gs fit s h = absurd cc
   find_law_some i (g ∷ fs) f gs fit s h = go (same g.name x) refl h (find_law_some (i + length (fun_spelled g)) fs f gs n.rest_fit n.after)
     where
       n : NextFun bs i g fs
@@ -215,14 +216,14 @@ module _ (p : Program) (fit : a_program p ≡ true) where
   unfolding is_fine
   fine_law =
       ap (λ o. passed o (λ n. names_differ (program_spelled p) n)) (program_number p fit)
-      ∙ ap₂ (λ xs b. distinct xs && b) (names_law (program_spelled p) (bytes_program p fit) 8 p (program_parts p fit).1 (program_funs p fit))
-      (owns_law (program_spelled p) (bytes_program p fit) 8 p (program_parts p fit).1 (program_funs p fit))
+      ∙ ap₂ (λ xs b. distinct xs && b) (names_law (program_spelled p) (bytes_program p fit) 8 p (program_fits p fit).1 (program_funs p fit))
+      (owns_law (program_spelled p) (bytes_program p fit) 8 p (program_fits p fit).1 (program_funs p fit))
 
   find_in : (x : Name) → find_function (program_spelled p) x ≡ find_from (length p) (program_spelled p) x 8
   find_in x = ap (λ o. found o (λ n. find_from n (program_spelled p) x 8)) (program_number p fit)
 
   pub find_program_none : (x : Name) → fun_of p x ≡ [] → find_function (program_spelled p) x ≡ None
-  find_program_none x h = find_in x ∙ find_law_none (program_spelled p) (bytes_program p fit) x 8 p (program_parts p fit).1 (program_funs p fit) h
+  find_program_none x h = find_in x ∙ find_law_none (program_spelled p) (bytes_program p fit) x 8 p (program_fits p fit).1 (program_funs p fit) h
 
 -- f was found by the name x in the spelling of p
 pub record FoundIn (p : Program) (x : Name) (f : Fun) : Type 0 where
@@ -237,7 +238,7 @@ stands-between bs i p s = ap (λ n. take n (drop i bs)) (let z : i + length p - 
 pub find_program_some : (p : Program) → a_program p ≡ true → (x : Name) (f : Fun) (gs : List Fun) → fun_of p x ≡ f ∷ gs → FoundIn p x f
 find_program_some p fit x f gs h =
     let bytes = bytes_program p fit in
-    let r = find_law_some (program_spelled p) bytes x 8 p f gs (program_parts p fit).1 (program_funs p fit) h in
+    let r = find_law_some (program_spelled p) bytes x 8 p f gs (program_fits p fit).1 (program_funs p fit) h in
     record {
       place = r;
       found = find_in p fit x ∙ r.found;

@@ -125,7 +125,7 @@ pub ends_there : (f n : ℕ) (bs : List ℕ) (i j : ℕ) → all_bytes bs ≡ tr
 ends_there f zero bs i j bytes e =
     let is : i ≡ j = cc (ends-done bs i 0 f refl) in
     record { exprs = []; count = refl; fit = refl; stands = ap (λ k. drop k bs) (sym (add-zero i)); end = omega arith }
-ends_there zero (suc n) bs i j bytes e = let z : ◌≡◌ {A = ℕ} 0 1 = cc (ends_short bs i (suc n) 0 (omega arith) refl) in absurd (omega arith)
+ends_there zero (suc n) bs i j bytes e = absurd (cc (ends_short bs i (suc n) 0 (omega arith) refl))
 ends_there (suc f) (suc n) bs i j bytes e =
     let got = found_some _ _ _ (sym (ends-turn n f bs i) ∙ e) in
     let t = got.0 in

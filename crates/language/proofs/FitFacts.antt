@@ -6,7 +6,7 @@ use Rattle.language.specs.Bytes.{in_bytes, eight, with_length, all_bytes, Name}
 use Rattle.language.specs.Expr.{Expr, num, var, bin, call, bind, choice, tell, Exprs, expr_and, count_exprs}
 use Rattle.language.specs.Spelling.{expr_spelled, exprs_spelled}
 use Rattle.language.specs.Fits.{a_name, an_expr, all_exprs}
-use Rattle.language.proofs.StandsFacts.{length-eight}
+use Rattle.language.proofs.HeadFacts.{length_with}
 
 and_three : (a b c : Bool) → (a && (b && c)) ≡ true → (a ≡ true) × (b ≡ true) × (c ≡ true)
 and_three a b c h = let t = and_parts _ _ h in let u = and_parts _ _ t.1 in (t.0, u.0, u.1)
@@ -57,21 +57,13 @@ pub fit_call : (f : Name) (es : Exprs) → a_name f ≡ true → leb (count_expr
 unfolding an_expr
 fit_call f es o p q = and_from _ _ (and_from _ _ o p) q
 
--- 1 to 32 bytes
-pub name_short : (x : Name) → a_name x ≡ true → length x ≤ 32
-name_short x h =
-    leb-true _ _ (and_parts _ _ (and_parts _ _ h).0).1
-
-pub name-long : (x : Name) → length (with_length x) ≡ length x + 8
-name-long x = omega (arith, length-append (eight (length x)) x, length-eight (length x))
-
 pub num-long : (n : ℕ) → length (expr_spelled (num n)) ≡ 9
 unfolding expr_spelled in_bytes
 num-long n = refl
 
 pub var-long : (x : Name) → length (expr_spelled (var x)) ≡ length x + 9
 unfolding expr_spelled
-var-long x = omega (arith, name-long x)
+var-long x = omega (arith, length_with x)
 
 pub bin-long : (k : ℕ) (a b : Expr) → length (expr_spelled (bin k a b)) ≡ length (expr_spelled a) + length (expr_spelled b) + 2
 unfolding expr_spelled
@@ -79,12 +71,12 @@ bin-long k a b = omega (arith, length-append (expr_spelled a) (expr_spelled b))
 
 pub call_long : (f : Name) (es : Exprs) → length (expr_spelled (call f es)) ≡ length f + length (exprs_spelled es) + 10
 unfolding expr_spelled
-call_long f es = omega (arith, name-long f, length-append (with_length f) (count_exprs es ∷ exprs_spelled es))
+call_long f es = omega (arith, length_with f, length-append (with_length f) (count_exprs es ∷ exprs_spelled es))
 
 pub bind-long : (x : Name) (a b : Expr) → length (expr_spelled (bind x a b)) ≡ length x + length (expr_spelled a) + length (expr_spelled b) + 9
 unfolding expr_spelled
 bind-long x a b =
-    omega (arith, name-long x, length-append (with_length x) (expr_spelled a), length-append (with_length x ++ expr_spelled a) (expr_spelled b))
+    omega (arith, length_with x, length-append (with_length x) (expr_spelled a), length-append (with_length x ++ expr_spelled a) (expr_spelled b))
 
 pub choice-long : (c a b : Expr) → length (expr_spelled (choice c a b)) ≡ length (expr_spelled c) + length (expr_spelled a) + length (expr_spelled b) + 1
 unfolding expr_spelled

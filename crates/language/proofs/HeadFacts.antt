@@ -1,7 +1,8 @@
 -- Names and heads are read where they stand, and what is read stands there. Assumes nothing.
 use Rattle.std.proofs.Common.{◌≡◌, ℕ, ◌+◌, ◌-◌, ◌<◌, ◌≤◌, Bool, true, false, ◌&&◌, eqb, ltb, leb, List, [], ◌∷◌, ◌++◌, length, get_or, take, drop, Some, None, Option, sym, refl, ap, ◌∙◌, subst, ap₂, add-zero, arith, ltb-true, lt-ltb, eqb-true, le-leb, leb-true}
 use Rattle.std.specs.List.{between}
-use Rattle.std.proofs.lemmas.List.{length-append, length-drop, length-take-le}
+use Rattle.std.proofs.lemmas.List.{length-append}
+use Rattle.std.proofs.lemmas.List.Edits.{length-between}
 use Rattle.std.proofs.lemmas.Bool.{and_parts, and_from}
 use Rattle.language.specs.Basics.{pick}
 use Rattle.language.specs.Bytes.{Name, eight, with_length, all_bytes}
@@ -16,13 +17,14 @@ use Rattle.language.proofs.StandsFacts.{Stands, stands-first, stands-second, sta
 pub length_with : (x : List ℕ) → length (with_length x) ≡ 8 + length x
 length_with x = length-append (eight (length x)) x ∙ ap (λ k. k + length x) (length-eight (length x))
 
+-- a name that fits has 1 to 32 bytes
+pub name_short : (x : Name) → a_name x ≡ true → (1 ≤ length x) × (length x ≤ 32)
+name_short x h = let q = and_parts _ _ (and_parts _ _ h).0 in (leb-true _ _ q.0, leb-true _ _ q.1)
+
 -- a name that stands there is read
 module _ (bs : List ℕ) (i : ℕ) (x : Name) (fits : a_name x ≡ true) (h : Stands bs i (with_length x)) where
   short : (1 ≤ length x) × (length x ≤ 32)
-  short =
-      let p = and_parts _ _ fits in
-      let q = and_parts _ _ p.0 in
-      (leb-true _ _ q.0, leb-true _ _ q.1)
+  short = name_short x fits
 
   name_room : i + 8 + length x ≤ length bs
   name_room = omega (arith, stands_in bs i (with_length x) (omega (arith, length_with x)) h, length_with x)
@@ -49,9 +51,7 @@ pub record NameThere (bs : List ℕ) (i j : ℕ) : Type 0 where
 
 module _ (bs : List ℕ) (i n : ℕ) (bytes : all_bytes bs ≡ true) (there : NumberThere bs i n) (low : 1 ≤ n) (high : n ≤ 32) (room : i + 8 + n ≤ length bs) where
   name-length : length (between (i + 8) (i + 8 + n) bs) ≡ n
-  name-length =
-      ap (λ k. length (take k (drop (i + 8) bs))) (let z : i + 8 + n - (i + 8) ≡ n = omega arith in z)
-      ∙ length-take-le n (drop (i + 8) bs) (omega (arith, length-drop (i + 8) bs))
+  name-length = omega (arith, length-between bs (i + 8) (i + 8 + n) room)
 
   name-fits : a_name (between (i + 8) (i + 8 + n) bs) ≡ true
   name-fits =
@@ -239,7 +239,7 @@ head-there bs i t bytes e =
     (either k 4 _ _ t (λ is e. with_kind 4 bs i t here is (bind-there bs (i + 1) t bytes e))
     (either k 5 _ _ t (λ is e. with_kind 5 bs i t here is (alone 5 h_choice refl refl e))
     (either k 6 _ _ t (λ is e. with_kind 6 bs i t here is (alone 6 h_tell refl refl e))
-    (λ e. let z : ◌≡◌ {A = ℕ} 0 1 = cc in absurd (omega arith))))))))
+    (λ e. absurd cc)))))))
     (pick-found (ltb i (length bs)) (kind_at k bs (i + 1)) t e).1
   where
     k : ℕ

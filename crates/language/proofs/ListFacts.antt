@@ -1,6 +1,9 @@
 -- What holds of every element, and lists made of lists. Assumes nothing.
-use Rattle.std.proofs.Common.{◌≡◌, ℕ, zero, suc, ◌+◌, ◌-◌, ◌<◌, ◌≤◌, Bool, true, false, ◌&&◌, List, [], ◌∷◌, ◌++◌, length, get_or, take, drop, set, sym, refl, ap, ◌∙◌, ap₂, arith}
+use Rattle.std.proofs.Common.{◌≡◌, ℕ, zero, suc, ◌+◌, ◌-◌, ◌<◌, ◌≤◌, Bool, true, false, ◌&&◌, List, [], ◌∷◌, ◌++◌, length, get_or, take, drop, set, sym, refl, ap, ◌∙◌, ap₂, zero-add, arith}
 use Rattle.std.proofs.lemmas.List.{append_assoc, at_drop_more, at_drop_all, drop_more, take_more, set_at, length-take-le, take_all}
+use Rattle.std.proofs.lemmas.List.Edits.{paste_more, paste_all}
+use Rattle.std.proofs.lemmas.List.Recursion.{and_at, and_from_places}
+use lib.Seq.{take-append-add}
 use Rattle.std.proofs.lemmas.Bool.{and_parts, and_from}
 use Rattle.language.specs.Basics.{pick, every, each, those, flat}
 
@@ -76,26 +79,17 @@ flat_append f (x ∷ xs) ys = ap (λ r. f x ++ r) (flat_append f xs ys) ∙ sym 
 -- a loop that writes one element after the other over a row
 pub written_more : (xs row old : List ℕ) (k v : ℕ) → k < length xs → k < length old → row ≡ take k xs ++ drop k old → v ≡ get_or xs k 0 →
     set row k v ≡ take (k + 1) xs ++ drop (k + 1) old
-written_more xs row old k v h l e p =
-    ap₂ (λ r w. set r k w) (e ∙ ap (λ t. take k xs ++ t) (drop_more old k 0 l)) p
-    ∙ set_at (take k xs) (get_or old k 0) (drop (k + 1) old) (get_or xs k 0) k (length-take-le k xs (omega arith))
-    ∙ sym (append_assoc (take k xs) (get_or xs k 0 ∷ []) (drop (k + 1) old)) ∙ ap (λ t. t ++ drop (k + 1) old) (sym (take_more xs k 0 h))
+written_more xs row old k v h l e p = ap₂ (λ r w. set r k w) e p ∙ simp zero-add at (paste_more old 0 xs k 0 (omega arith) h)
 
 pub written_all : (xs row old : List ℕ) (k n : ℕ) → row ≡ take k xs ++ drop k old → length xs ≡ n → k ≡ n → row ≡ xs ++ drop n old
-written_all xs row old k n e l p = e ∙ ap₂ ◌++◌ (take_all k xs (omega arith)) (ap (λ j. drop j old) p)
+written_all xs row old k n e l p = e ∙ simp zero-add at (paste_all old 0 xs k (p ∙ sym l)) ∙ ap (λ j. xs ++ drop j old) p
 
 -- what holds of every element, by its place
 pub every_from : {A : Type 0} (p : A → Bool) (d : A) (xs : List A) → ((k : ℕ) → k < length xs → p (get_or xs k d) ≡ true) → every p xs ≡ true
-every_from p d [] h = refl
-every_from p d (x ∷ xs) h = and_from _ _ (h 0 (omega arith)) (every_from p d xs (λ k l. h (suc k) (omega arith)))
+every_from p d xs h = and_from_places (every p) p refl (λ x ys. refl) xs d h
 
 pub every-at : {A : Type 0} (p : A → Bool) (d : A) (xs : List A) → every p xs ≡ true → (k : ℕ) → k < length xs → p (get_or xs k d) ≡ true
-every-at p d [] h k l = absurd (omega arith)
-every-at p d (x ∷ xs) h zero l = (and_parts _ _ h).0
-every-at p d (x ∷ xs) h (suc k) l = every-at p d xs (and_parts _ _ h).1 k (omega arith)
+every-at p d xs h k l = and_at (every p) p refl (λ x ys. refl) xs k d l h
 
 pub take_past : {A : Type 0} (n : ℕ) (xs ys : List A) → length xs ≤ n → take n (xs ++ ys) ≡ xs ++ take (n - length xs) ys
-take_past n [] ys h = ap (λ k. take k ys) (let z : n ≡ n - 0 = omega arith in z)
-take_past zero (x ∷ xs) ys h = absurd (omega arith)
-take_past (suc n) (x ∷ xs) ys h =
-    ap (λ r. x ∷ r) (take_past n xs ys (omega arith) ∙ ap (λ k. xs ++ take k ys) (let z : n - length xs ≡ suc n - suc (length xs) = omega arith in z))
+take_past n xs ys h = ap (λ k. take k (xs ++ ys)) (let z : n ≡ length xs + (n - length xs) = omega arith in z) ∙ take-append-add xs ys (n - length xs)

@@ -1,23 +1,22 @@
 -- Names that are the same, and which names a row has. Assumes nothing.
 use Rattle.std.proofs.Common.{◌≡◌, Bool, true, false, not, ◌&&◌, eqb, List, [], ◌∷◌, ◌++◌, sym, refl, ap, ◌∙◌, ap₂, eq-eqb, eqb-true}
+use Rattle.std.specs.Bool.{Decides}
+use Rattle.std.proofs.lemmas.Slice.Eq.{compares_Decides}
 use borrow.Author.Tests.{clash}
 use Rattle.std.proofs.lemmas.Bool.{and_parts, and_from}
 use Rattle.language.specs.Basics.{pick, or, every, same}
 use Rattle.language.specs.Bytes.{Name}
 use Rattle.language.specs.Names.{has, joined, less}
 
-pub same_refl : (x : Name) → same x x ≡ true
+same_decides : (x y : Name) → Decides (same x y) (x ≡ y)
 unfolding same
-same_refl [] = refl
-same_refl (b ∷ bs) = and_from _ _ (eq-eqb _ _ refl) (same_refl bs)
+same_decides = compares_Decides same (record { empty = refl; shorter = λ y ys. refl; longer = λ x xs. refl; heads = λ x y xs ys. refl })
+
+pub same_refl : (x : Name) → same x x ≡ true
+same_refl x = (same_decides x x).1 refl
 
 pub same_eq : (x y : Name) → same x y ≡ true → x ≡ y
-unfolding same
-same_eq [] [] h = refl
-same_eq [] (y ∷ ys) h = absurd (clash h)
-same_eq (x ∷ xs) [] h = absurd (clash h)
-same_eq (x ∷ xs) (y ∷ ys) h =
-    ap₂ ◌∷◌ (eqb-true _ _ (and_parts _ _ h).0) (same_eq xs ys (and_parts _ _ h).1)
+same_eq x y = (same_decides x y).0
 
 pub same_sym : (x y : Name) → same x y ≡ same y x
 same_sym x y = go (same x y) (same y x) refl refl

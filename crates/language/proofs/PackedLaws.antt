@@ -9,7 +9,7 @@ use Rattle.language.specs.Basics.{every, flat}
 use Rattle.language.specs.Bytes.{eight, all_bytes}
 use Rattle.language.specs.Packed.{words_for, word_of, packed}
 use Rattle.language.proofs.StandsFacts.{number_eight_back, bytes_below}
-use Rattle.language.proofs.PackedFacts.{front_byte, front_length}
+use Rattle.language.proofs.PackedFacts.{front_at, front_length}
 
 pub length_packed_words : (bs : List ℕ) → length (packed bs) ≡ words_for (length bs)
 unfolding packed
@@ -75,7 +75,7 @@ module _ (bs : List ℕ) (bytes : all_bytes bs ≡ true) where
     byte_back : (i : ℕ) → i < length bs → get_or (take (length bs) (flat eight (packed bs ++ rest))) i 0 ≡ get_or bs i 0
     byte_back i h =
         let k : i / 8 < words_for (length bs) = omega arith in
-        front_byte (packed bs ++ rest) (length bs) i h (omega (arith, enough))
+        front_at (packed bs ++ rest) (length bs) i h
         ∙ ap (λ w. get_or (eight w) (i % 8) 0) (get_or_append_left (packed bs) rest 0 (i / 8) (omega (arith, length_packed_words bs)) ∙ packed_word bs (i / 8) k)
         ∙ ap (λ l. get_or l (i % 8) 0) (word_bytes (i / 8))
         ∙ byte_from bs (i / 8) (i % 8) (omega arith)
@@ -84,10 +84,7 @@ module _ (bs : List ℕ) (bytes : all_bytes bs ≡ true) where
     front_long : length (take (length bs) (flat eight (packed bs ++ rest))) ≡ length bs
     front_long = omega (arith, front_length (packed bs ++ rest) (length bs), enough)
 
-    packed_back : take (length bs) (flat eight (packed bs ++ rest)) ≡ bs
-    packed_back =
-        ext_get_or 0 (take (length bs) (flat eight (packed bs ++ rest))) bs front_long
-        (λ i h. byte_back i (omega (arith, front_long)))
-
 pub packed-flat : (bs rest : List ℕ) → all_bytes bs ≡ true → take (length bs) (flat eight (packed bs ++ rest)) ≡ bs
-packed-flat bs rest bytes = packed_back bs bytes rest
+packed-flat bs rest bytes =
+    ext_get_or 0 (take (length bs) (flat eight (packed bs ++ rest))) bs (front_long bs bytes rest)
+    (λ i h. byte_back bs bytes rest i (omega (arith, front_long bs bytes rest)))

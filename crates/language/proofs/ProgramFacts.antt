@@ -13,6 +13,7 @@ use Rattle.language.specs.Reading.{found, times, number_at, name_end, expr_end, 
 use Rattle.language.proofs.ReadingFacts.{times-done, times_more, found_some, pick-found}
 use Rattle.language.proofs.StandsFacts.{Stands, stands-first, stands-second, stands_join, length-eight, number_stands, number_there}
 use Rattle.language.proofs.HeadFacts.{length_with, name-stands, name_there}
+use Rattle.language.proofs.ProgramFits.{program_fits}
 use Rattle.language.proofs.ExprFacts.{ends_stand, ExprsThere, ends_there}
 
 -- something that fits stands there, and ends there
@@ -243,21 +244,15 @@ program_was bs bytes e = go (number_at bs 0) refl q.1
 
 -- the spelling of a program that fits: how long it is, its count, and its functions after it
 module _ (p : Program) (fit : a_program p ≡ true) where
-  pub program_parts : (length p ≤ 1024) × (every a_fun p ≡ true) × (length (program_spelled p) ≤ 65536)
-  program_parts =
-      let q = and_parts _ _ fit in
-      let r = and_parts _ _ q.0 in
-      (leb-true _ _ r.0, r.1, leb-true _ _ q.1)
-
   whole : Stands (program_spelled p) 0 (program_spelled p)
   whole = whole-stands (program_spelled p)
 
   pub program_short : (8 ≤ length (program_spelled p)) × (length (program_spelled p) ≤ 65536)
-  program_short = (omega (arith, length-append (eight (length p)) (flat fun_spelled p), length-eight (length p)), program_parts.2)
+  program_short = (omega (arith, length-append (eight (length p)) (flat fun_spelled p), length-eight (length p)), (program_fits p fit).2)
 
   pub program_number : number_at (program_spelled p) 0 ≡ Some (length p)
   program_number =
-      number_stands (program_spelled p) 0 (length p) (omega (arith, program_parts.0)) (stands-first (program_spelled p) 0 (eight (length p)) (flat fun_spelled p) whole)
+      number_stands (program_spelled p) 0 (length p) (omega (arith, (program_fits p fit).0)) (stands-first (program_spelled p) 0 (eight (length p)) (flat fun_spelled p) whole)
 
   pub program_funs : Stands (program_spelled p) 8 (flat fun_spelled p)
   program_funs =
@@ -266,16 +261,16 @@ module _ (p : Program) (fit : a_program p ≡ true) where
 
 pub program_read : (p : Program) → all_bytes (program_spelled p) ≡ true → a_program p ≡ true → is_program (program_spelled p) ≡ true
 program_read p bytes fit =
-    and_from _ _ (le-leb _ _ (program_parts p fit).2)
+    and_from _ _ (le-leb _ _ (program_fits p fit).2)
     (ap (funs_fill bs) (program_number p fit)
-    ∙ and_from _ _ (le-leb _ _ (program_parts p fit).0) (ap (λ o. ends_at o (length bs)) read ∙ eq-eqb _ _ ends))
+    ∙ and_from _ _ (le-leb _ _ (program_fits p fit).0) (ap (λ o. ends_at o (length bs)) read ∙ eq-eqb _ _ ends))
   where
     bs : List ℕ
     bs = program_spelled p
 
     read : times (length p) (fun_end (program_spelled p)) 8 ≡ Some (8 + length (flat fun_spelled p))
     read =
-        (funs_read (program_spelled p) bytes (length p)).read 8 p (and_from _ _ (program_parts p fit).1 (eq-eqb _ _ refl))
+        (funs_read (program_spelled p) bytes (length p)).read 8 p (and_from _ _ (program_fits p fit).1 (eq-eqb _ _ refl))
         (program_funs p fit)
 
     ends : 8 + length (flat fun_spelled p) ≡ length (program_spelled p)

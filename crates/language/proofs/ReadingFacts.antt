@@ -25,13 +25,6 @@ pub number_eight : (a b c d e f g h : ℕ) → number_from_digits 256 (a ∷ b �
     a * 72057594037927936 + b * 281474976710656 + c * 1099511627776 + d * 4294967296 + e * 16777216 + f * 65536 + g * 256 + h
 number_eight a b c d e f g h = omega arith
 
-pub number_read : (bs : List ℕ) (i : ℕ) → i + 8 ≤ length bs → number_at bs i ≡ Some
-    (get_or bs i 0 * 72057594037927936 + get_or bs (i + 1) 0 * 281474976710656 + get_or bs (i + 2) 0 * 1099511627776 + get_or bs (i + 3) 0 * 4294967296
-    + get_or bs (i + 4) 0 * 16777216 + get_or bs (i + 5) 0 * 65536 + get_or bs (i + 6) 0 * 256 + get_or bs (i + 7) 0)
-number_read bs i h =
-    ap (λ t. pick t (Some (number_from_digits 256 (take 8 (drop i bs)))) None) (le-leb _ _ h)
-    ∙ ap Some (ap (number_from_digits 256) (take-eight bs i h) ∙ number_eight _ _ _ _ _ _ _ _)
-
 -- one turn of reading the next expressions, by what the next head is
 pub ends-done : (bs : List ℕ) (i n f : ℕ) → n ≡ 0 → ends n f bs i ≡ Some i
 unfolding ends
@@ -81,13 +74,13 @@ times_more s i j n m p e = ap (λ k. times k s i) p ∙ ap (λ o. found o (λ k.
 
 -- what was found came from something that was found, or from a test that held
 pub found_some : {A B : Type 0} (o : Option A) (f : A → Option B) (b : B) → found o f ≡ Some b → (a : A) × (o ≡ Some a) × (f a ≡ Some b)
-found_some None f b e = let z : ◌≡◌ {A = ℕ} 0 1 = cc in absurd (omega arith)
+found_some None f b e = absurd cc
 found_some (Some a) f b e = (a, refl, e)
 
 pub pick_some : {A : Type 0} (t : Bool) (a b : A) → pick t (Some a) None ≡ Some b → (t ≡ true) × (a ≡ b)
 pick_some true a b e = (refl, cc)
-pick_some false a b e = let z : ◌≡◌ {A = ℕ} 0 1 = cc in absurd (omega arith)
+pick_some false a b e = absurd cc
 
 pub pick-found : {A : Type 0} (t : Bool) (o : Option A) (b : A) → pick t o None ≡ Some b → (t ≡ true) × (o ≡ Some b)
 pick-found true o b e = (refl, e)
-pick-found false o b e = let z : ◌≡◌ {A = ℕ} 0 1 = cc in absurd (omega arith)
+pick-found false o b e = absurd cc

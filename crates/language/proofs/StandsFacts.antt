@@ -115,4 +115,4 @@ number_there bs i n bytes e = go (leb (i + 8) (length bs)) refl e
         let room : i + 8 ≤ length bs = leb-true _ _ h in
         let is : number_from_digits 256 (take 8 (drop i bs)) ≡ n = cc in
         record { stands = taken-stands bs i 8 (eight n) (length-eight n) (sym (ap eight (sym is) ∙ eights room)); small = rw is at (small room); room = room }
-    go false h e = let z : ◌≡◌ {A = ℕ} 0 1 = cc in absurd (omega arith)
+    go false h e = absurd cc

@@ -22,11 +22,6 @@ pub hashed-end : (h : ℕ) (x : Name) (k : ℕ) → length x ≤ k → hashed h 
 unfolding hashed
 hashed-end h x k l = ap (hashed h) (drop_all k x l)
 
-pub hashed-small : (h : ℕ) (x : Name) → h < 18446744073709551616 → hashed h x < 18446744073709551616
-unfolding hashed
-hashed-small h [] l = l
-hashed-small h (b ∷ bs) l = hashed-small ((h * 1099511628211 + b) % 18446744073709551616) bs (omega arith)
-
 -- the numbers only rule names out
 hash-same : (x y : Name) → (eqb (hash x) (hash y) && same x y) ≡ same x y
 hash-same x y = go (same x y) refl
@@ -127,10 +122,6 @@ module _ (t : List ℕ) (k : ℕ) where
       ∙ ap (λ n. get_or t (2 * k) 0 ∷ get_or t (2 * k + 1) 0 ∷ drop n t) (let z : 2 * k + 1 + 1 ≡ 2 * (k + 1) = omega arith in z)
 
   module _ (bs : List ℕ) where
-    pub all_none : length t ≤ 2 * k → all_differ bs (drop (2 * k) t) ≡ true
-    unfolding all_differ
-    all_none h = ap (all_differ bs) (drop_all (2 * k) t h)
-
     all-turn : 2 * k + 1 < length t →
         all_differ bs (drop (2 * k) t) ≡ (none_like bs (get_or t (2 * k) 0) (get_or t (2 * k + 1) 0) (drop (2 * (k + 1)) t) && all_differ bs (drop (2 * (k + 1)) t))
     unfolding all_differ
@@ -144,10 +135,6 @@ module _ (t : List ℕ) (k : ℕ) where
     all_more h e = all-turn h ∙ ap (λ b. b && all_differ bs (drop (2 * (k + 1)) t)) e
 
   module _ (bs : List ℕ) (h o : ℕ) where
-    pub like_none : length t ≤ 2 * k → none_like bs h o (drop (2 * k) t) ≡ true
-    unfolding none_like
-    like_none l = ap (none_like bs h o) (drop_all (2 * k) t l)
-
     like_turn : 2 * k + 1 < length t →
         none_like bs h o (drop (2 * k) t)
         ≡ (not (eqb h (get_or t (2 * k) 0) && same (name_there bs o) (name_there bs (get_or t (2 * k + 1) 0))) && none_like bs h o (drop (2 * (k + 1)) t))

@@ -14,7 +14,8 @@ use Rattle.language.specs.Spelling.{expr_spelled}
 use Rattle.language.specs.Fits.{a_name, an_expr}
 use Rattle.language.proofs.NameFacts.{same_sym, or_left_false, or_right_false, or_false, not_or, has-append}
 use Rattle.language.proofs.BareSpelling.{alike-bare, bare_alike}
-use Rattle.language.proofs.FitFacts.{bind_fit, fit_bind, name_short, bind-long}
+use Rattle.language.proofs.HeadFacts.{name_short}
+use Rattle.language.proofs.FitFacts.{bind_fit, fit_bind, bind-long}
 use Rattle.language.proofs.PlaceFits.{at_fit, put_fit}
 use Rattle.language.proofs.PlaceLengths.{put_long, at_short}
 use Rattle.model.specs.Rename.{renamed, put_name, nth_name}
@@ -53,7 +54,7 @@ bind-clear ps body ks x y a b es fit fit_y few short stands =
       bind-long x a b,
       bind-long y a (renamed x y b),
       name_short y fit_y,
-      renamed-long b x y (name_short y fit_y),
+      renamed-long b x y (name_short y fit_y).1,
       at_short ks body (bind x a b) es stands,
     ) in
     says_same (alike ps body ps (put_at body ks new)) (clear x y false false b)
@@ -133,7 +134,7 @@ module _ (left right : List Name) (body : Expr) (x y : Name) where
   own-alike fit fit_y few short apart-all other =
       says_same (alike old body new (renamed x y body)) (clear x y false false body)
       (alike_says old new body (renamed x y body) fit (renamed_fit body x y fit_y fit) few (few-new few) (omega arith)
-      (omega (arith, renamed-long body x y (name_short y fit_y))))
+      (omega (arith, renamed-long body x y (name_short y fit_y).1)))
       (clear-renamed body x y right left (none_before left right x apart-all)
       (or_left_false _ _ (sym (has-append left right y) ∙ other)))
 
