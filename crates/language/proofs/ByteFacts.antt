@@ -1,5 +1,5 @@
 -- What fits is spelled in bytes. Assumes nothing.
-use Rattle.std.proofs.Common.{◌≡◌, ℕ, zero, suc, ◌/◌, ◌%◌, ◌<◌, Bool, true, ◌&&◌, ltb, leb, List, [], ◌∷◌, ◌++◌, length, refl, arith, ltb-true, lt-ltb, leb-true}
+use Rattle.std.proofs.Common.{◌≡◌, ℕ, zero, suc, ◌/◌, ◌%◌, ◌<◌, Bool, true, ltb, List, [], ◌∷◌, ◌++◌, length, refl, arith, ltb-true, lt-ltb, leb-true}
 use Rattle.std.proofs.lemmas.Bool.{and_parts, and_from}
 use Rattle.language.specs.Basics.{every, flat}
 use Rattle.language.specs.Bytes.{Name, in_bytes, eight, with_length, all_bytes}
@@ -62,18 +62,7 @@ bytes_flat f ok each-one (x ∷ xs) h =
     bytes_append (f x) (flat f xs) (each-one x q.0) (bytes_flat f ok each-one xs q.1)
 
 pub bytes_fun : (f : Fun) → a_fun f ≡ true → all_bytes (fun_spelled f) ≡ true
-bytes_fun f h =
-    let q = and_parts _ _ h in
-    let r = and_parts _ _ q.0 in
-    let s = and_parts _ _ r.1 in
-    bytes_append (with_length f.name ++ eight (length f.params) ++ flat with_length f.params) (expr_spelled f.body)
-    (bytes_append (with_length f.name ++ eight (length f.params)) (flat with_length f.params)
-    (bytes_append (with_length f.name) (eight (length f.params)) (bytes_name f.name r.0) (bytes_eight _))
-    (bytes_flat with_length a_name bytes_name f.params s.1))
-    (bytes_expr f.body q.1)
+bytes_fun f h = grind (arith, bytes_append, bytes_eight, bytes_flat, bytes_expr)
 
 pub bytes_program : (p : Program) → a_program p ≡ true → all_bytes (program_spelled p) ≡ true
-bytes_program p h =
-    let q = and_parts _ _ h in
-    bytes_append (eight (length p)) (flat fun_spelled p) (bytes_eight (length p))
-    (bytes_flat fun_spelled a_fun bytes_fun p (and_parts _ _ q.0).1)
+bytes_program p h = grind (arith, bytes_append, bytes_eight, bytes_flat, bytes_fun)

@@ -1,6 +1,6 @@
 -- Where a function's body begins, and the bytes of a program in which one function is another. A function's bytes are its front, which is its name
 -- and its own names, and its body; where names are distinct, only the one function has its name. Assumes nothing.
-use Rattle.std.proofs.Common.{◌≡◌, ℕ, ◌+◌, true, false, not, ◌&&◌, List, [], ◌∷◌, ◌++◌, length, Some, sym, refl, ap, ◌∙◌, subst, ap₂, arith}
+use Rattle.std.proofs.Common.{◌≡◌, ℕ, ◌+◌, true, false, ◌&&◌, List, [], ◌∷◌, ◌++◌, length, Some, sym, refl, ap, ◌∙◌, subst, ap₂, arith}
 use Rattle.std.proofs.lemmas.List.{append_assoc, length-append}
 use Rattle.std.proofs.lemmas.Bool.{and_parts, not-true}
 use Rattle.language.specs.Basics.{pick, each, flat, same}
@@ -13,14 +13,14 @@ use Rattle.language.specs.Reading.{found, name_end, params_end}
 use Rattle.language.proofs.ListFacts.{each_append, flat_append}
 use Rattle.language.proofs.NameFacts.{same_refl, same_sym, or_left_false, or_right_false, has-append}
 use Rattle.language.proofs.StandsFacts.{Stands, stands-first, stands-second}
-use Rattle.language.proofs.ProgramFacts.{params_spelled, some_params, name_reads, params_reads, both_reads, fun-parts}
+use Rattle.language.proofs.ProgramFacts.{params_spelled, some_params, name_reads, params_reads, both_reads}
 
 -- a function's bytes before its body
 abbrev pub fun_front : Fun → List ℕ
 fun_front f = with_length f.name ++ params_spelled f.params
 
 pub fun_split : (f : Fun) → fun_spelled f ≡ fun_front f ++ expr_spelled f.body
-fun_split f = fun-parts f ∙ sym (append_assoc (with_length f.name) (params_spelled f.params) (expr_spelled f.body))
+fun_split f = grind (arith, append_assoc)
 
 -- where the body begins of a function that stands at o
 abbrev pub body_from : ℕ → Fun → ℕ
@@ -55,8 +55,7 @@ body_at bs bytes o f fit s =
 -- the bytes of a program in which one function is another
 pub changed-spelled : (p before : Program) (f g : Fun) (after : Program) → p ≡ before ++ f ∷ after →
     program_spelled (before ++ g ∷ after) ≡ eight (length p) ++ (flat fun_spelled before ++ (fun_spelled g ++ flat fun_spelled after))
-changed-spelled p before f g after e =
-    ap₂ (λ n r. eight n ++ r) (length-append before (g ∷ after) ∙ sym (length-append before (f ∷ after)) ∙ ap length (sym e)) (flat_append fun_spelled before (g ∷ after))
+changed-spelled p before f g after e = grind (arith, length-append, flat_append)
 
 -- where no function has the name, nothing changes
 pub changed_none : (p : Program) (x : Name) (g : Fun) → has (each (λ h. h.name) p) x ≡ false → each (λ h. pick (same h.name x) g h) p ≡ p
@@ -84,5 +83,4 @@ changed_split (b ∷ before) f g after d =
 
 pub changed-fun : (p before : Program) (f g : Fun) (after : Program) → p ≡ before ++ f ∷ after → distinct (each (λ h. h.name) p) ≡ true →
     each (λ h. pick (same h.name f.name) g h) p ≡ before ++ g ∷ after
-changed-fun p before f g after e d =
-    ap (each (λ h. pick (same h.name f.name) g h)) e ∙ changed_split before f g after (ap (λ l. distinct (each (λ h. h.name) l)) (sym e) ∙ d)
+changed-fun p before f g after e d = grind (arith, changed_split)

@@ -9,10 +9,10 @@ use Rattle.language.specs.Bytes.{Name, eight, with_length, all_bytes}
 use Rattle.language.specs.Expr.{Fun, Program}
 use Rattle.language.specs.Meaning.{fun_of}
 use Rattle.language.specs.Names.{distinct}
-use Rattle.language.specs.Spelling.{expr_spelled, fun_spelled, program_spelled}
-use Rattle.language.specs.Fits.{a_name, an_expr, a_fun, a_program}
+use Rattle.language.specs.Spelling.{fun_spelled, program_spelled}
+use Rattle.language.specs.Fits.{a_name, a_fun, a_program}
 use Rattle.language.specs.Reading.{found, number_at, name_end, fun_end}
-use Rattle.language.specs.Contents.{listed, passed, name_there, names_from, own_names, fun_names, owns_differ, names_differ, is_fine, find_from, find_function}
+use Rattle.language.specs.Contents.{listed, passed, name_there, names_from, own_names, fun_names, owns_differ, is_fine, find_from, find_function}
 use Rattle.language.proofs.StandsFacts.{Stands, stands-first, stands-second, stands-taken, length-eight, number_stands}
 use Rattle.language.proofs.HeadFacts.{length_with, name-stands, name_bytes}
 use Rattle.language.proofs.ByteFacts.{bytes_program}
@@ -22,7 +22,7 @@ use Rattle.language.proofs.ContentsFacts.{names_none, names_more, owns_none, own
 
 -- names that stand there are read
 pub name_is : (bs : List ℕ) (i : ℕ) (x : Name) → a_name x ≡ true → Stands bs i (with_length x) → name_there bs i ≡ x
-name_is bs i x fit s = ap (λ o. listed o (λ j. between (i + 8) j bs)) (name-stands bs i x fit s) ∙ name_bytes bs i x fit s
+name_is bs i x fit s = grind (arith, name-stands, name_bytes)
 
 pub names_are : (bs : List ℕ) (i : ℕ) (xs : List Name) → every a_name xs ≡ true → Stands bs i (flat with_length xs) → names_from (length xs) bs i ≡ xs
 names_are bs i [] fit s = names_none bs i 0 0 refl
@@ -69,12 +69,10 @@ module _ (bs : List ℕ) (i n m : ℕ) where
   fun_names_none e = ap (λ k. fun_names k bs i) e
 
   pub fun_names_no_name : n ≡ suc m → name_end bs i ≡ None → fun_names n bs i ≡ []
-  fun_names_no_name e p = fun_names-turn e ∙ ap (λ o. listed o (λ j. between (i + 8) j bs ∷ listed (fun_end bs i) (λ k. fun_names m bs k))) p
+  fun_names_no_name e p = grind (arith, fun_names-turn)
 
   at_fun-name : n ≡ suc m → (j : ℕ) → name_end bs i ≡ Some j → fun_names n bs i ≡ name_there bs i ∷ listed (fun_end bs i) (λ k. fun_names m bs k)
-  at_fun-name e j p =
-      fun_names-turn e ∙ ap (λ o. listed o (λ j. between (i + 8) j bs ∷ listed (fun_end bs i) (λ k. fun_names m bs k))) p
-      ∙ ap (λ o. listed o (λ j. between (i + 8) j bs) ∷ listed (fun_end bs i) (λ k. fun_names m bs k)) (sym p)
+  at_fun-name e j p = grind (arith, fun_names-turn)
 
   pub fun_names-cut : n ≡ suc m → (j : ℕ) → name_end bs i ≡ Some j → fun_end bs i ≡ None → fun_names n bs i ≡ name_there bs i ∷ []
   fun_names-cut e j p f = at_fun-name e j p ∙ ap (λ o. name_there bs i ∷ listed o (λ k. fun_names m bs k)) f
@@ -117,7 +115,7 @@ module _ (bs : List ℕ) (bytes : all_bytes bs ≡ true) where
       here = stands-first bs i (fun_spelled f) (flat fun_spelled rest) s
 
       names : Stands bs i (with_length f.name ++ params_spelled f.params)
-      names = stands-first bs i (with_length f.name ++ params_spelled f.params) (expr_spelled f.body) (subst (Stands bs i) (simp append_assoc) here)
+      names = grind (arith, stands-first, params_spelled, append_assoc, here)
 
       name : Stands bs i (with_length f.name)
       name = stands-first bs i (with_length f.name) (params_spelled f.params) names
@@ -214,16 +212,13 @@ module _ (bs : List ℕ) (bytes : all_bytes bs ≡ true) (x : Name) where
 module _ (p : Program) (fit : a_program p ≡ true) where
   pub fine_law : is_fine (program_spelled p) ≡ (distinct (each (λ f. f.name) p) && every (λ f. distinct f.params) p)
   unfolding is_fine
-  fine_law =
-      ap (λ o. passed o (λ n. names_differ (program_spelled p) n)) (program_number p fit)
-      ∙ ap₂ (λ xs b. distinct xs && b) (names_law (program_spelled p) (bytes_program p fit) 8 p (program_fits p fit).1 (program_funs p fit))
-      (owns_law (program_spelled p) (bytes_program p fit) 8 p (program_fits p fit).1 (program_funs p fit))
+  fine_law = grind (arith, program_number, names_law, bytes_program, program_fits, program_funs, owns_law)
 
   find_in : (x : Name) → find_function (program_spelled p) x ≡ find_from (length p) (program_spelled p) x 8
   find_in x = ap (λ o. found o (λ n. find_from n (program_spelled p) x 8)) (program_number p fit)
 
   pub find_program_none : (x : Name) → fun_of p x ≡ [] → find_function (program_spelled p) x ≡ None
-  find_program_none x h = find_in x ∙ find_law_none (program_spelled p) (bytes_program p fit) x 8 p (program_fits p fit).1 (program_funs p fit) h
+  find_program_none x h = grind (arith, find_in, find_law_none, bytes_program, program_fits, program_funs)
 
 -- f was found by the name x in the spelling of p
 pub record FoundIn (p : Program) (x : Name) (f : Fun) : Type 0 where

@@ -1,8 +1,8 @@
 -- Expressions that fit: what their parts are, and how long an expression's spelling is by its parts. Assumes nothing.
-use Rattle.std.proofs.Common.{◌≡◌, ℕ, ◌+◌, ◌≤◌, Bool, true, false, ◌&&◌, ltb, leb, ◌∷◌, ◌++◌, length, refl, arith, length-append, leb-true}
+use Rattle.std.proofs.Common.{◌≡◌, ℕ, ◌+◌, Bool, true, false, ◌&&◌, ltb, leb, ◌∷◌, ◌++◌, length, refl, arith, length-append}
 use Rattle.std.proofs.lemmas.Bool.{and_parts, and_from}
 use Rattle.language.specs.Basics.{pick}
-use Rattle.language.specs.Bytes.{in_bytes, eight, with_length, all_bytes, Name}
+use Rattle.language.specs.Bytes.{in_bytes, with_length, Name}
 use Rattle.language.specs.Expr.{Expr, num, var, bin, call, bind, choice, tell, Exprs, expr_and, count_exprs}
 use Rattle.language.specs.Spelling.{expr_spelled, exprs_spelled}
 use Rattle.language.specs.Fits.{a_name, an_expr, all_exprs}

@@ -23,18 +23,11 @@ name_short x h = let q = and_parts _ _ (and_parts _ _ h).0 in (leb-true _ _ q.0,
 
 -- a name that stands there is read
 module _ (bs : List ℕ) (i : ℕ) (x : Name) (fits : a_name x ≡ true) (h : Stands bs i (with_length x)) where
-  short : (1 ≤ length x) × (length x ≤ 32)
-  short = name_short x fits
-
   name_room : i + 8 + length x ≤ length bs
   name_room = omega (arith, stands_in bs i (with_length x) (omega (arith, length_with x)) h, length_with x)
 
   pub name-stands : name_end bs i ≡ Some (i + 8 + length x)
-  name-stands =
-      ap (λ o. found o (λ n. pick ((leb 1 n && leb n 32) && leb (i + 8 + n) (length bs)) (Some (i + 8 + n)) None))
-      (number_stands bs i (length x) (omega (arith, short)) (stands-first bs i (eight (length x)) x h))
-      ∙ ap (λ t. pick t (Some (i + 8 + length x)) None)
-      (and_from _ _ (and_from _ _ (le-leb _ _ short.0) (le-leb _ _ short.1)) (le-leb _ _ name_room))
+  name-stands = grind (arith, number_stands, stands-first, name_room)
 
   pub name_bytes : between (i + 8) (i + 8 + length x) bs ≡ x
   name_bytes =
@@ -54,20 +47,13 @@ module _ (bs : List ℕ) (i n : ℕ) (bytes : all_bytes bs ≡ true) (there : Nu
   name-length = omega (arith, length-between bs (i + 8) (i + 8 + n) room)
 
   name-fits : a_name (between (i + 8) (i + 8 + n) bs) ≡ true
-  name-fits =
-      and_from _ _
-      (and_from _ _ (le-leb 1 (length (between (i + 8) (i + 8 + n) bs)) (omega (arith, name-length)))
-      (le-leb _ _ (omega (arith, name-length))))
-      (every_take (λ b. ltb b 256) (i + 8 + n - (i + 8)) (drop (i + 8) bs) (every_drop (λ b. ltb b 256) (i + 8) bs bytes))
+  name-fits = grind (arith, name-length, every_take, every_drop)
 
   bytes_stand : Stands bs (i + 8) (between (i + 8) (i + 8 + n) bs)
   bytes_stand = taken-stands bs (i + 8) (i + 8 + n - (i + 8)) _ (omega (arith, name-length)) refl
 
   name_all_stands : Stands bs i (with_length (between (i + 8) (i + 8 + n) bs))
-  name_all_stands =
-      stands_join bs i (eight (length (between (i + 8) (i + 8 + n) bs))) (between (i + 8) (i + 8 + n) bs)
-      (subst (λ k. Stands bs i (eight k)) (sym name-length) there.stands)
-      (subst (λ k. Stands bs k (between (i + 8) (i + 8 + n) bs)) (omega (arith, length-eight (length (between (i + 8) (i + 8 + n) bs)))) bytes_stand)
+  name_all_stands = grind (arith, stands_join, name-length, length-eight, bytes_stand)
 
   name-made : NameThere bs i (i + 8 + n)
   name-made =
@@ -95,9 +81,7 @@ after_kind bs i k q h = stands-second bs i (k ∷ []) q h
 
 named_stands : (f : Name → Head) (bs : List ℕ) (i : ℕ) (x : Name) → a_name x ≡ true → Stands bs i (with_length x) →
     named_at f bs i ≡ Some (token (f x) (i + length (with_length x)))
-named_stands f bs i x fits h =
-    ap (λ o. found o (λ j. Some (token (f (between (i + 8) j bs)) j))) (name-stands bs i x fits h)
-    ∙ ap₂ (λ y j. Some (token (f y) j)) (name_bytes bs i x fits h) (omega (arith, length_with x))
+named_stands f bs i x fits h = grind (arith, name-stands, fits, name_bytes, length_with)
 
 call-stands : (bs : List ℕ) (i : ℕ) (x : Name) (k : ℕ) → a_name x ≡ true → k ≤ 16 → Stands bs i (with_length x ++ k ∷ []) →
     call_at bs i ≡ Some (token (h_call x k) (i + length (with_length x ++ k ∷ [])))
@@ -122,9 +106,7 @@ call-stands bs i x k fits few h =
     room = omega (arith, stands_in bs (i + 8 + length x) (k ∷ []) (omega arith) rest)
 
 num-stands : (bs : List ℕ) (i n : ℕ) → n < limit → Stands bs i (eight n) → num_at bs i ≡ Some (token (h_num n) (i + 8))
-num-stands bs i n small h =
-    ap (λ o. found o (λ m. pick (ltb m limit) (Some (token (h_num m) (i + 8))) None)) (number_stands bs i n (omega arith) h)
-    ∙ ap (λ t. pick t (Some (token (h_num n) (i + 8))) None) (lt-ltb _ _ small)
+num-stands bs i n small h = grind (arith, number_stands)
 
 bin-stands : (bs : List ℕ) (i k : ℕ) → k < 6 → Stands bs i (k ∷ []) → bin_at bs i ≡ Some (token (h_bin k) (i + 1))
 bin-stands bs i k few h =

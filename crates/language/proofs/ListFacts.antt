@@ -1,6 +1,6 @@
 -- What holds of every element, and lists made of lists. Assumes nothing.
 use Rattle.std.proofs.Common.{◌≡◌, ℕ, zero, suc, ◌+◌, ◌-◌, ◌<◌, ◌≤◌, Bool, true, false, ◌&&◌, List, [], ◌∷◌, ◌++◌, length, get_or, take, drop, set, sym, refl, ap, ◌∙◌, ap₂, zero-add, arith}
-use Rattle.std.proofs.lemmas.List.{append_assoc, at_drop_more, at_drop_all, drop_more, take_more, set_at, length-take-le, take_all}
+use Rattle.std.proofs.lemmas.List.{append_assoc, at_drop_more, at_drop_all}
 use Rattle.std.proofs.lemmas.List.Edits.{paste_more, paste_all}
 use Rattle.std.proofs.lemmas.List.Recursion.{and_at, and_from_places}
 use lib.Seq.{take-append-add}
@@ -74,7 +74,7 @@ every-end p xs i h = at_drop_all (every p) xs i h
 
 pub flat_append : {A B : Type 0} (f : A → List B) (xs ys : List A) → flat f (xs ++ ys) ≡ flat f xs ++ flat f ys
 flat_append f [] ys = refl
-flat_append f (x ∷ xs) ys = ap (λ r. f x ++ r) (flat_append f xs ys) ∙ sym (append_assoc (f x) (flat f xs) (flat f ys))
+flat_append f (x ∷ xs) ys = grind (arith, append_assoc, flat_append f xs ys)
 
 -- a loop that writes one element after the other over a row
 pub written_more : (xs row old : List ℕ) (k v : ℕ) → k < length xs → k < length old → row ≡ take k xs ++ drop k old → v ≡ get_or xs k 0 →

@@ -1,16 +1,15 @@
 -- Names that are the same, and which names a row has. Assumes nothing.
-use Rattle.std.proofs.Common.{◌≡◌, Bool, true, false, not, ◌&&◌, eqb, List, [], ◌∷◌, ◌++◌, sym, refl, ap, ◌∙◌, ap₂, eq-eqb, eqb-true}
+use Rattle.std.proofs.Common.{rules, arith, ◌≡◌, Bool, true, false, not, ◌&&◌, List, [], ◌∷◌, ◌++◌, sym, refl, ap, ◌∙◌}
 use Rattle.std.specs.Bool.{Decides}
-use Rattle.std.proofs.lemmas.Slice.Eq.{compares_Decides}
 use borrow.Author.Tests.{clash}
-use Rattle.std.proofs.lemmas.Bool.{and_parts, and_from}
+use Rattle.std.proofs.lemmas.Bool.{and_parts}
 use Rattle.language.specs.Basics.{pick, or, every, same}
 use Rattle.language.specs.Bytes.{Name}
 use Rattle.language.specs.Names.{has, joined, less}
 
 same_decides : (x y : Name) → Decides (same x y) (x ≡ y)
 unfolding same
-same_decides = compares_Decides same (record { empty = refl; shorter = λ y ys. refl; longer = λ x xs. refl; heads = λ x y xs ys. refl })
+same_decides = search rules
 
 pub same_refl : (x : Name) → same x x ≡ true
 same_refl x = (same_decides x x).1 refl
@@ -64,37 +63,18 @@ pub has_put : (xs : List Name) (y x : Name) → has (pick (has xs y) xs (xs ++ y
 has_put xs y x = go (has xs y) (same x y) refl refl
   where
     go : (t s : Bool) → has xs y ≡ t → same x y ≡ s → has (pick t xs (xs ++ y ∷ [])) x ≡ or (has xs x) s
-    go true true h k = ap (has xs) (same_eq x y k) ∙ h ∙ sym (ap (λ b. or b true) (ap (has xs) (same_eq x y k) ∙ h))
+    go true true h k = grind (arith, same_eq)
     go true false h k = sym (or_false (has xs x))
     go false s h k = has-append xs (y ∷ []) x ∙ ap (or (has xs x)) (or_false (same x y) ∙ k)
 
 pub has-joined : (xs ys : List Name) (x : Name) → has (joined xs ys) x ≡ or (has xs x) (has ys x)
 unfolding joined
 has-joined xs [] x = sym (or_false (has xs x))
-has-joined xs (y ∷ ys) x =
-    has-joined (pick (has xs y) xs (xs ++ y ∷ [])) ys x ∙ ap (λ b. or b (has ys x)) (has_put xs y x) ∙ or_assoc (has xs x) (same x y) (has ys x)
+has-joined xs (y ∷ ys) x = grind (arith, has_put, has-joined (pick (has xs y) xs (xs ++ y ∷ [])) ys x)
 
 pub has-less : (y : Name) (xs : List Name) (x : Name) → has (less y xs) x ≡ (not (same y x) && has xs x)
-has-less y [] x = go (same y x)
-  where
-    go : (t : Bool) → false ≡ (not t && false)
-    go true = refl
-    go false = refl
-has-less y (z ∷ zs) x = go (same y z) refl (has-less y zs x)
-  where
-    go : (t : Bool) → same y z ≡ t → has (less y zs) x ≡ (not (same y x) && has zs x) →
-        has (pick (not t) (z ∷ less y zs) (less y zs)) x ≡ (not (same y x) && or (same x z) (has zs x))
-    go true h ih = ih ∙ over (same y x) refl
-      where
-        over : (t : Bool) → same y x ≡ t → (not t && has zs x) ≡ (not t && or (same x z) (has zs x))
-        over true k = refl
-        over false k = ap (λ b. or b (has zs x)) (sym (ap (same x) (sym (same_eq y z h)) ∙ same_sym x y ∙ k))
-    go false h ih = ap (or (same x z)) ih ∙ over (same y x) (same x z) refl refl
-      where
-        over : (t s : Bool) → same y x ≡ t → same x z ≡ s → or s (not t && has zs x) ≡ (not t && or s (has zs x))
-        over true true k j = absurd (clash (sym h ∙ ap (λ v. same v z) (same_eq y x k) ∙ j))
-        over true false k j = refl
-        over false s k j = refl
+has-less y [] x = grind arith
+has-less y (z ∷ zs) x = grind (arith, same_eq, has-less y zs x)
 
 -- names of which xs has each
 pub every-has : (xs ys : List Name) → every (has xs) ys ≡ true → (y : Name) → has ys y ≡ true → has xs y ≡ true

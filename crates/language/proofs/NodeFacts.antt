@@ -1,9 +1,8 @@
 -- An expression is its head and its parts: how it is spelled, when it fits, and that any head with so many parts is one. Assumes nothing.
 use Rattle.std.proofs.Common.{◌≡◌, suc, ◌≤◌, Bool, true, false, ◌&&◌, leb, List, [], ◌∷◌, ◌++◌, length, get_or, sym, refl, ap, ◌∙◌, ap₂, arith}
-use Rattle.std.proofs.lemmas.List.{append_assoc, append-nil, length-append}
+use Rattle.std.proofs.lemmas.List.{append_assoc, append-nil}
 use Rattle.std.proofs.lemmas.Bool.{and_parts, and_from}
 use Rattle.language.specs.Basics.{every, flat}
-use Rattle.language.specs.Bytes.{with_length}
 use Rattle.language.specs.Expr.{Expr, Exprs, num, var, bin, call, bind, choice, tell, no_exprs, expr_and, exprs_in, count_exprs, parts}
 use Rattle.language.specs.Spelling.{expr_spelled, exprs_spelled}
 use Rattle.language.specs.Fits.{a_name, an_expr, all_exprs}
@@ -29,11 +28,9 @@ unfolding expr_spelled head_spelled head_of parts
 spelled_node (num n) = ap (λ r. 0 ∷ r) (sym (append-nil _))
 spelled_node (var x) = ap (λ r. 1 ∷ r) (sym (append-nil _))
 spelled_node (bin k a b) = ap (λ r. 2 ∷ k ∷ (expr_spelled a ++ r)) (sym (append-nil _))
-spelled_node (call f es) =
-    ap (λ r. 3 ∷ (with_length f ++ count_exprs es ∷ r)) (spelled-all es) ∙ ap (λ r. 3 ∷ r) (sym (append_assoc (with_length f) (count_exprs es ∷ []) (flat expr_spelled (exprs_in es))))
-spelled_node (bind x a b) =
-    ap (λ r. 4 ∷ r) (append_assoc (with_length x) (expr_spelled a) (expr_spelled b) ∙ ap (λ r. with_length x ++ (expr_spelled a ++ r)) (sym (append-nil _)))
-spelled_node (choice c a b) = ap (λ r. 5 ∷ r) (append_assoc (expr_spelled c) (expr_spelled a) (expr_spelled b) ∙ ap (λ r. expr_spelled c ++ (expr_spelled a ++ r)) (sym (append-nil _)))
+spelled_node (call f es) = grind (arith, spelled-all, append_assoc)
+spelled_node (bind x a b) = grind (arith, append_assoc, append-nil)
+spelled_node (choice c a b) = grind (arith, append_assoc, append-nil)
 spelled_node (tell a) = ap (λ r. 6 ∷ r) (sym (append-nil _))
 
 pub parts-arity : (e : Expr) → length (parts e) ≡ arity (head_of e)

@@ -1,14 +1,14 @@
 -- What stands at a place is one thing: no two names, expressions, functions or programs that fit are spelled alike. Assumes nothing.
-use Rattle.std.proofs.Common.{◌≡◌, ℕ, zero, suc, ◌+◌, ◌-◌, ◌<◌, Bool, true, ◌&&◌, leb, List, [], ◌∷◌, ◌++◌, length, get_or, take, drop, Some, sym, refl, ap, ◌∙◌, subst, ap₂, arith, leb-true}
+use Rattle.std.proofs.Common.{◌≡◌, ℕ, zero, suc, ◌+◌, ◌-◌, ◌<◌, Bool, true, List, [], ◌∷◌, ◌++◌, length, get_or, take, drop, Some, sym, refl, ap, ◌∙◌, subst, ap₂, arith, leb-true}
 use Rattle.std.specs.List.{between}
 use Rattle.std.proofs.lemmas.List.{append-nil, length-append, take_at, drop_at}
 use Rattle.std.proofs.lemmas.Bool.{and_parts, and_from}
 use Rattle.language.specs.Basics.{every, flat}
 use Rattle.language.specs.Bytes.{Name, eight, with_length}
-use Rattle.language.specs.Expr.{Expr, Exprs, num, var, bin, call, bind, choice, tell, no_exprs, expr_and, exprs_in, parts, Fun, Program}
+use Rattle.language.specs.Expr.{Expr, num, parts, Fun, Program}
 use Rattle.language.specs.Spelling.{expr_spelled, fun_spelled, program_spelled}
 use Rattle.language.specs.Fits.{a_name, an_expr, a_fun, a_program}
-use Rattle.language.specs.Heads.{Head, h_num, h_var, h_bin, h_call, h_bind, h_choice, h_tell, head_of, arity, head_spelled, a_head}
+use Rattle.language.specs.Heads.{head_of, arity, head_spelled, a_head}
 use Rattle.language.specs.Reading.{Token}
 use Rattle.language.proofs.ListFacts.{every_append}
 use Rattle.language.proofs.StandsFacts.{Stands, stands-first, stands-second, stands_in, length-eight, number_stands}

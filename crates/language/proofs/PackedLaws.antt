@@ -1,6 +1,6 @@
 -- Bytes packed into words are the bytes again, and each word is below 2^64: the kth word's eight bytes are the bytes from 8 k on.
 -- Assumes nothing.
-use Rattle.std.proofs.Common.{◌≡◌, ℕ, zero, suc, ◌+◌, ◌*◌, ◌/◌, ◌%◌, ◌<◌, ◌≤◌, true, ltb, List, [], ◌∷◌, ◌++◌, map, length, get_or, take, sym, refl, ap, ◌∙◌, add-zero, arith, lt-ltb}
+use Rattle.std.proofs.Common.{◌≡◌, ℕ, zero, suc, ◌+◌, ◌*◌, ◌<◌, ◌≤◌, true, ltb, List, [], ◌∷◌, ◌++◌, map, length, get_or, take, sym, refl, ap, add-zero, arith, lt-ltb}
 use Rattle.std.specs.List.{range_with_len}
 use Rattle.std.proofs.lemmas.List.{length-append, get_or_append_left, ext_get_or}
 use Rattle.std.proofs.lemmas.List.FromFn.{length-map-range_with_len, get_or-map-range_with_len}
@@ -40,24 +40,11 @@ byte_from bs k (suc (suc (suc (suc (suc (suc (suc (suc r)))))))) h = absurd (ome
 module _ (bs : List ℕ) (bytes : all_bytes bs ≡ true) where
   word_bytes : (k : ℕ) → eight (word_of bs k) ≡ eight_from bs k
   unfolding word_of eight_from
-  word_bytes k =
-      number_eight_back _ _ _ _ _ _ _ _ (bytes_below bs bytes _) (bytes_below bs bytes _) (bytes_below bs bytes _) (bytes_below bs bytes _) (bytes_below bs bytes _)
-      (bytes_below bs bytes _) (bytes_below bs bytes _) (bytes_below bs bytes _)
+  word_bytes k = grind (arith, number_eight_back, bytes_below)
 
   pub word_small : (k : ℕ) → word_of bs k < 18446744073709551616
   unfolding word_of
-  word_small k =
-      omega (
-        arith,
-        bytes_below bs bytes (k * 8),
-        bytes_below bs bytes (k * 8 + 1),
-        bytes_below bs bytes (k * 8 + 2),
-        bytes_below bs bytes (k * 8 + 3),
-        bytes_below bs bytes (k * 8 + 4),
-        bytes_below bs bytes (k * 8 + 5),
-        bytes_below bs bytes (k * 8 + 6),
-        bytes_below bs bytes (k * 8 + 7),
-      )
+  word_small k = grind (arith, bytes_below)
 
   words_small : (ks : List ℕ) → every (λ w. ltb w 18446744073709551616) (map (word_of bs) ks) ≡ true
   words_small [] = refl
@@ -73,13 +60,7 @@ module _ (bs : List ℕ) (bytes : all_bytes bs ≡ true) where
     enough = omega (arith, length-append (packed bs) rest, length_packed_words bs)
 
     byte_back : (i : ℕ) → i < length bs → get_or (take (length bs) (flat eight (packed bs ++ rest))) i 0 ≡ get_or bs i 0
-    byte_back i h =
-        let k : i / 8 < words_for (length bs) = omega arith in
-        front_at (packed bs ++ rest) (length bs) i h
-        ∙ ap (λ w. get_or (eight w) (i % 8) 0) (get_or_append_left (packed bs) rest 0 (i / 8) (omega (arith, length_packed_words bs)) ∙ packed_word bs (i / 8) k)
-        ∙ ap (λ l. get_or l (i % 8) 0) (word_bytes (i / 8))
-        ∙ byte_from bs (i / 8) (i % 8) (omega arith)
-        ∙ ap (λ j. get_or bs j 0) (let z : i / 8 * 8 + i % 8 ≡ i = omega arith in z)
+    byte_back i h = grind (arith, front_at, get_or_append_left, length_packed_words, packed_word, word_bytes, byte_from)
 
     front_long : length (take (length bs) (flat eight (packed bs ++ rest))) ≡ length bs
     front_long = omega (arith, front_length (packed bs ++ rest) (length bs), enough)

@@ -1,6 +1,6 @@
 -- Places, part by part: what was put at one is there, and putting there what stands there changes nothing. A part put for another keeps the head
 -- and the other parts, and so the bytes around it. Assumes nothing.
-use Rattle.std.proofs.Common.{◌≡◌, ℕ, zero, suc, Bool, true, false, eqb, List, [], ◌∷◌, ◌++◌, take, drop, sym, refl, ap, ◌∙◌, ap₂}
+use Rattle.std.proofs.Common.{arith, ◌≡◌, ℕ, zero, suc, Bool, true, false, eqb, List, [], ◌∷◌, ◌++◌, take, drop, sym, refl, ap, ◌∙◌}
 use mathlib.Core.List.{nil≢cons}
 use Rattle.std.proofs.lemmas.List.{append_assoc}
 use Rattle.language.specs.Basics.{pick, flat}
@@ -43,8 +43,7 @@ part-head (var x) k d = refl
 part-head (bin o a b) k d = pick-head (eqb k 0) (bin o d b) (bin o a d) _ refl refl
 part-head (call f es) k d = ap (h_call f) (nth_count es k d)
 part-head (bind x a b) k d = pick-head (eqb k 0) (bind x d b) (bind x a d) _ refl refl
-part-head (choice c a b) k d =
-    pick-head (eqb k 0) (choice d a b) (pick (eqb k 1) (choice c d b) (choice c a d)) _ refl (pick-head (eqb k 1) (choice c d b) (choice c a d) _ refl refl)
+part-head (choice c a b) k d = grind arith
 part-head (tell a) k d = refl
 
 nth_put : (es : Exprs) (k : ℕ) (c : Expr) (cs : List Expr) (d : Expr) → nth_expr (exprs_in es) k ≡ c ∷ cs →
@@ -79,7 +78,7 @@ part_again a k e c cs h = ap (λ es. nth_expr es k) (part_put a k c cs e h) ∙ 
 
 -- the kth part put where it is
 part_same : (a : Expr) (k : ℕ) (c : Expr) (cs : List Expr) → nth_expr (parts a) k ≡ c ∷ cs → with_part a k c ≡ a
-part_same a k c cs h = node_same (with_part a k c) a (part-head a k c) (part_put a k c cs c h ∙ nth_split (parts a) k c cs h)
+part_same a k c cs h = grind (arith, node_same, part-head, part_put, nth_split)
 
 -- the bytes of an expression before its kth part, and after it
 abbrev pub before_part : Expr → ℕ → List ℕ
@@ -90,11 +89,7 @@ after_part e k = flat expr_spelled (drop (suc k) (parts e))
 
 module _ (e : Expr) (k : ℕ) (c : Expr) (cs : List Expr) (h : nth_expr (parts e) k ≡ c ∷ cs) where
   pub put_part_spelled : (d : Expr) → expr_spelled (with_part e k d) ≡ before_part e k ++ (expr_spelled d ++ after_part e k)
-  put_part_spelled d =
-      spelled_node (with_part e k d)
-      ∙ ap₂ (λ x ps. head_spelled x ++ flat expr_spelled ps) (part-head e k d) (part_put e k c cs d h)
-      ∙ ap (λ r. head_spelled (head_of e) ++ r) (flat_append expr_spelled (take k (parts e)) (d ∷ drop (suc k) (parts e)))
-      ∙ sym (append_assoc (head_spelled (head_of e)) (flat expr_spelled (take k (parts e))) (expr_spelled d ++ after_part e k))
+  put_part_spelled d = grind (arith, spelled_node, part-head, part_put, flat_append, append_assoc)
 
   pub part-spelled : expr_spelled e ≡ before_part e k ++ (expr_spelled c ++ after_part e k)
   part-spelled = ap expr_spelled (sym (part_same e k c cs h)) ∙ put_part_spelled c

@@ -1,12 +1,11 @@
 -- What stands at a place of an expression that fits, fits; and put there, what fits keeps the whole so. Assumes nothing.
-use Rattle.std.proofs.Common.{◌≡◌, ℕ, zero, suc, true, ◌&&◌, List, [], ◌∷◌, ◌++◌, take, drop, sym, refl, ap, ◌∙◌}
+use Rattle.std.proofs.Common.{arith, ◌≡◌, ℕ, zero, suc, true, List, [], ◌∷◌, sym, refl, ap, ◌∙◌}
 use mathlib.Core.List.{nil≢cons}
-use Rattle.std.proofs.lemmas.Bool.{and_parts, and_from}
+use Rattle.std.proofs.lemmas.Bool.{and_parts}
 use Rattle.language.specs.Basics.{every}
 use Rattle.language.specs.Expr.{Expr, parts}
 use Rattle.language.specs.Places.{nth_expr, at_place, with_part, put_some, put_at}
 use Rattle.language.specs.Fits.{an_expr}
-use Rattle.language.specs.Heads.{a_head}
 use Rattle.language.proofs.ListFacts.{every_take, every_drop, every_append}
 use Rattle.language.proofs.NodeFacts.{head-fits, node_fits}
 use Rattle.language.proofs.PlaceFacts.{part-head, part_put, within}
@@ -24,12 +23,7 @@ at_fit (k ∷ ks) a b bs h e =
     let r = within a k ks b bs e in at_fit ks r.part b bs (nth_fit (parts a) k r.part r.others (head-fits a h).1 r.is_part) r.stands
 
 part_fit : (a : Expr) (k : ℕ) (c : Expr) (cs : List Expr) (e : Expr) → an_expr a ≡ true → nth_expr (parts a) k ≡ c ∷ cs → an_expr e ≡ true → an_expr (with_part a k e) ≡ true
-part_fit a k c cs e h p fit =
-    let was = head-fits a h in
-    node_fits (with_part a k e) (ap a_head (part-head a k e) ∙ was.0)
-    (ap (every an_expr) (part_put a k c cs e p)
-    ∙ every_append an_expr (take k (parts a)) (e ∷ drop (suc k) (parts a)) (every_take an_expr k (parts a) was.1)
-    (and_from (an_expr e) (every an_expr (drop (suc k) (parts a))) fit (every_drop an_expr (suc k) (parts a) was.1)))
+part_fit a k c cs e h p fit = grind (arith, head-fits, node_fits, part-head, part_put, every_append, every_take, every_drop)
 
 pub put_fit : (ks : List ℕ) (a e : Expr) → an_expr a ≡ true → an_expr e ≡ true → an_expr (put_at a ks e) ≡ true
 unfolding put_at

@@ -1,16 +1,16 @@
 -- Where what stands at a place begins, in the bytes of an expression, and those bytes with something else put there. By induction on the place:
 -- a part begins after its head and the parts before it, and something else put for it keeps the head and the other parts. Assumes nothing.
-use Rattle.std.proofs.Common.{◌≡◌, ℕ, zero, suc, ◌+◌, ◌<◌, ◌≤◌, Bool, true, false, eqb, ltb, List, [], ◌∷◌, ◌++◌, length, take, drop, Some, None, sym, refl, ap, ◌∙◌, subst, ap₂, add-zero, arith, le-ltb, lt-ltb}
+use Rattle.std.proofs.Common.{◌≡◌, ℕ, zero, suc, ◌+◌, ◌<◌, ◌≤◌, true, ltb, List, [], ◌∷◌, ◌++◌, length, take, Some, None, sym, refl, ap, ◌∙◌, subst, ap₂, add-zero, arith, le-ltb, lt-ltb}
 use mathlib.Core.List.{nil≢cons}
 use Rattle.std.proofs.lemmas.List.{append_assoc, append-nil, length-append, length-take-le}
 use Rattle.language.specs.Basics.{pick, flat}
-use Rattle.language.specs.Expr.{Expr, num, var, bin, call, bind, choice, tell, Exprs, no_exprs, expr_and, exprs_in, parts}
-use Rattle.language.specs.Places.{nth_expr, in_some, at_place, put_nth, with_part, put_some, put_at}
+use Rattle.language.specs.Expr.{Expr, parts}
+use Rattle.language.specs.Places.{nth_expr, in_some, at_place, with_part, put_at}
 use Rattle.language.specs.Spelling.{expr_spelled}
 use Rattle.language.specs.Fits.{an_expr}
-use Rattle.language.specs.Heads.{Head, h_call, head_of, arity, head_spelled}
+use Rattle.language.specs.Heads.{head_of, arity, head_spelled}
 use Rattle.language.specs.Reading.{found, Token, token, head_at, ends, place_at}
-use Rattle.language.proofs.ListFacts.{every_take, flat_append}
+use Rattle.language.proofs.ListFacts.{every_take}
 use Rattle.language.proofs.StandsFacts.{Stands, stands-first, stands-second}
 use Rattle.language.proofs.HeadFacts.{head-stands}
 use Rattle.language.proofs.NodeFacts.{spelled_node, parts-arity, head-fits}
@@ -35,15 +35,12 @@ nth_past (e ∷ es) (suc k) h = omega (arith, nth_past es k h)
 place-turn : (bs : List ℕ) (k : ℕ) (ks : List ℕ) (i : ℕ) (t : Token) → head_at bs i ≡ Some t →
     place_at bs (k ∷ ks) i ≡ pick (ltb k (arity t.head)) (found (ends k (length bs) bs t.end) (λ j. place_at bs ks j)) None
 unfolding place_at
-place-turn bs k ks i t e =
-    ap (λ o. found o (λ t. pick (ltb k (arity t.head)) (found (ends k (length bs) bs t.end) (λ j. place_at bs ks j)) None)) e
+place-turn bs k ks i t e = grind arith
 
 -- the head of an expression that stands there is read
 pub head_read : (bs : List ℕ) (i : ℕ) (e : Expr) → an_expr e ≡ true → Stands bs i (expr_spelled e) →
     head_at bs i ≡ Some (token (head_of e) (i + length (head_spelled (head_of e))))
-head_read bs i e fit s =
-    head-stands bs i (head_of e) (head-fits e fit).0
-    (stands-first bs i (head_spelled (head_of e)) (flat expr_spelled (parts e)) (subst (Stands bs i) (spelled_node e) s))
+head_read bs i e fit s = grind (arith, head-stands, head-fits, stands-first, spelled_node)
 
 module _ (bs : List ℕ) (i : ℕ) (e : Expr) (fit : an_expr e ≡ true) (s : Stands bs i (expr_spelled e)) (k : ℕ) (ks : List ℕ) where
   place_past : nth_expr (parts e) k ≡ [] → place_at bs (k ∷ ks) i ≡ None
@@ -62,9 +59,7 @@ module _ (bs : List ℕ) (i : ℕ) (e : Expr) (fit : an_expr e ≡ true) (s : St
         (stands-second bs i (before_part e k) (expr_spelled c ++ after_part e k) (subst (Stands bs i) (part-spelled e k c cs h) s))
 
     before_stands : Stands bs (i + length (head_spelled (head_of e))) (flat expr_spelled (take k (parts e)))
-    before_stands =
-        stands-second bs i (head_spelled (head_of e)) (flat expr_spelled (take k (parts e)))
-        (stands-first bs i (before_part e k) (expr_spelled c ++ after_part e k) (subst (Stands bs i) (part-spelled e k c cs h) s))
+    before_stands = grind (arith, stands-second, stands-first, before_part, after_part, part-spelled)
 
     before-skipped : ends k (length bs) bs (i + length (head_spelled (head_of e))) ≡ Some (i + length (before_part e k))
     before-skipped =
@@ -89,8 +84,7 @@ place_none bs (k ∷ ks) i e fit s h = go (nth_expr (parts e) k) refl h (λ c. p
         place_at bs ks (i + length (before_part e k)) ≡ None) →
         place_at bs (k ∷ ks) i ≡ None
     go [] p h ih = place_past bs i e fit s k ks p
-    go (c ∷ cs) p h ih =
-        place-part bs i e fit s k ks c cs p ∙ ih c (part-fits bs i e fit s k ks c cs p) (part-stands bs i e fit s k ks c cs p) h
+    go (c ∷ cs) p h ih = grind (arith, place-part, part-fits, part-stands)
 
 -- c stands at a place of e, which stands at i: where it begins, what is around it, and that this stays where something else is put there
 pub record Placed (bs : List ℕ) (i : ℕ) (e : Expr) (ks : List ℕ) (c : Expr) : Type 0 where
@@ -124,14 +118,10 @@ around a b x c d = simp append_assoc
 module _ (bs : List ℕ) (i : ℕ) (e : Expr) (fit : an_expr e ≡ true) (s : Stands bs i (expr_spelled e)) (k : ℕ) (ks : List ℕ) (a : Expr) (as₁ : List Expr)
     (h : nth_expr (parts e) k ≡ a ∷ as₁) (c : Expr) (r : Placed bs (i + length (before_part e k)) a ks c) where
   begins_within : place_at bs (k ∷ ks) i ≡ Some (i + length (before_part e k ++ r.before))
-  begins_within =
-      place-part bs i e fit s k ks a as₁ h ∙ r.at_is ∙ ap Some (omega (arith, length-append (before_part e k) r.before))
+  begins_within = grind (arith, place-part, length-append, before_part)
 
   put_within : (d : Expr) → expr_spelled (with_part e k (put_at a ks d)) ≡ (before_part e k ++ r.before) ++ (expr_spelled d ++ (r.after ++ after_part e k))
-  put_within d =
-      put_part_spelled e k a as₁ h (put_at a ks d)
-      ∙ ap (λ x. before_part e k ++ (x ++ after_part e k)) (r.put d)
-      ∙ around (before_part e k) r.before (expr_spelled d) r.after (after_part e k)
+  put_within d = grind (arith, put_part_spelled, around)
 
 pub place_some : (bs ks : List ℕ) (i : ℕ) (e c : Expr) (cs : List Expr) → an_expr e ≡ true → Stands bs i (expr_spelled e) → at_place e ks ≡ c ∷ cs →
     Placed bs i e ks c

@@ -1,7 +1,6 @@
 -- How long an expression's spelling is when something else stands at a place of it: what is put there for what stood there. Assumes nothing.
-use Rattle.std.proofs.Common.{◌≡◌, ℕ, suc, ◌+◌, ◌≤◌, List, [], ◌∷◌, ◌++◌, length, drop, refl, ap, arith}
+use Rattle.std.proofs.Common.{◌≡◌, ℕ, ◌+◌, ◌≤◌, List, [], ◌∷◌, ◌++◌, length, ap, arith}
 use Rattle.std.proofs.lemmas.List.{length-append}
-use Rattle.language.specs.Basics.{flat}
 use Rattle.language.specs.Expr.{Expr, parts}
 use Rattle.language.specs.Places.{nth_expr, at_place, with_part, put_at}
 use Rattle.language.specs.Spelling.{expr_spelled}

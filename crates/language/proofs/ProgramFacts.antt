@@ -1,5 +1,5 @@
 -- Names, functions and programs are read where they stand, and what is read stands there. Assumes nothing.
-use Rattle.std.proofs.Common.{◌≡◌, ℕ, zero, suc, ◌+◌, ◌<◌, ◌≤◌, Bool, true, ◌&&◌, eqb, leb, List, [], ◌∷◌, ◌++◌, length, drop, Some, None, Option, sym, refl, ap, ◌∙◌, subst, add-zero, arith, eq-eqb, eqb-true, le-leb, leb-true}
+use Rattle.std.proofs.Common.{◌≡◌, ℕ, zero, suc, ◌+◌, ◌<◌, ◌≤◌, Bool, true, ◌&&◌, eqb, leb, List, [], ◌∷◌, ◌++◌, length, drop, Some, None, Option, sym, refl, ap, ◌∙◌, subst, add-zero, arith, eq-eqb, eqb-true, leb-true}
 use borrow.Author.Tests.{clash}
 use Rattle.std.specs.List.{between}
 use Rattle.std.proofs.lemmas.List.{append_assoc, append-nil, length-append, drop_all}
@@ -248,11 +248,10 @@ module _ (p : Program) (fit : a_program p ≡ true) where
   whole = whole-stands (program_spelled p)
 
   pub program_short : (8 ≤ length (program_spelled p)) × (length (program_spelled p) ≤ 65536)
-  program_short = (omega (arith, length-append (eight (length p)) (flat fun_spelled p), length-eight (length p)), (program_fits p fit).2)
+  program_short = grind (arith, length-append, length-eight)
 
   pub program_number : number_at (program_spelled p) 0 ≡ Some (length p)
-  program_number =
-      number_stands (program_spelled p) 0 (length p) (omega (arith, (program_fits p fit).0)) (stands-first (program_spelled p) 0 (eight (length p)) (flat fun_spelled p) whole)
+  program_number = grind (arith, number_stands, program_fits, stands-first, whole)
 
   pub program_funs : Stands (program_spelled p) 8 (flat fun_spelled p)
   program_funs =
@@ -260,18 +259,4 @@ module _ (p : Program) (fit : a_program p ≡ true) where
       (stands-second (program_spelled p) 0 (eight (length p)) (flat fun_spelled p) whole)
 
 pub program_read : (p : Program) → all_bytes (program_spelled p) ≡ true → a_program p ≡ true → is_program (program_spelled p) ≡ true
-program_read p bytes fit =
-    and_from _ _ (le-leb _ _ (program_fits p fit).2)
-    (ap (funs_fill bs) (program_number p fit)
-    ∙ and_from _ _ (le-leb _ _ (program_fits p fit).0) (ap (λ o. ends_at o (length bs)) read ∙ eq-eqb _ _ ends))
-  where
-    bs : List ℕ
-    bs = program_spelled p
-
-    read : times (length p) (fun_end (program_spelled p)) 8 ≡ Some (8 + length (flat fun_spelled p))
-    read =
-        (funs_read (program_spelled p) bytes (length p)).read 8 p (and_from _ _ (program_fits p fit).1 (eq-eqb _ _ refl))
-        (program_funs p fit)
-
-    ends : 8 + length (flat fun_spelled p) ≡ length (program_spelled p)
-    ends = omega (arith, length-eight (length p), length-append (eight (length p)) (flat fun_spelled p))
+program_read p bytes fit = grind (arith, program_fits, program_number, eq-eqb, funs_read, program_funs, length-eight, length-append)

@@ -1,9 +1,9 @@
 -- What stands at a place in a row of bytes: one thing after another, and eight bytes as a number. Assumes nothing.
-use Rattle.std.proofs.Common.{◌≡◌, ℕ, zero, suc, ◌+◌, ◌-◌, ◌*◌, ◌<◌, ◌≤◌, Bool, true, false, leb, List, [], ◌∷◌, length, get_or, take, drop, Some, None, Option, refl, ap, ◌∙◌, ap₂, arith, le-leb}
+use Rattle.std.proofs.Common.{◌≡◌, ℕ, zero, suc, ◌+◌, ◌-◌, ◌*◌, ◌<◌, ◌≤◌, Bool, true, false, leb, List, [], ◌∷◌, length, get_or, take, drop, Some, None, Option, refl, ap, ◌∙◌, arith, le-leb}
 use borrow.Author.Tests.{lt-leb}
 use Rattle.language.specs.Basics.{pick}
 use Rattle.language.specs.Heads.{arity}
-use Rattle.language.specs.Reading.{number_at, Token, head_at, found, times, ends}
+use Rattle.language.specs.Reading.{Token, head_at, found, times, ends}
 use Rattle.std.proofs.lemmas.List.{drop_more}
 use Rattle.std.specs.Int.Digits.{number_from_digits}
 
@@ -45,7 +45,7 @@ ends-turn m g bs i = refl
 
 module _ (bs : List ℕ) (i n m f g : ℕ) (some : n ≡ suc m) (turns : f ≡ suc g) where
   one : (o : Option Token) → head_at bs i ≡ o → ends n f bs i ≡ found o (ends_after m g bs)
-  one o e = ap₂ (λ a b. ends a b bs i) some turns ∙ ends-turn m g bs i ∙ ap (λ t. found t (ends_after m g bs)) e
+  one o e = grind (arith, ends-turn)
 
   pub ends_none : head_at bs i ≡ None → ends n f bs i ≡ None
   ends_none e = one None e

@@ -1,5 +1,5 @@
 -- Rows of bytes compared one byte after the other. Assumes nothing.
-use Rattle.std.proofs.Common.{◌≡◌, ℕ, ◌+◌, ◌-◌, ◌<◌, ◌≤◌, Bool, true, false, ◌&&◌, eqb, List, length, get_or, drop, sym, refl, ap, ◌∙◌, ap₂, arith, eq-eqb, ne_eqb}
+use Rattle.std.proofs.Common.{◌≡◌, ℕ, ◌+◌, ◌-◌, ◌<◌, ◌≤◌, Bool, true, false, ◌&&◌, eqb, List, length, get_or, drop, refl, ap, ◌∙◌, ap₂, arith, eq-eqb, ne_eqb}
 use Rattle.std.specs.List.{between}
 use Rattle.std.proofs.lemmas.List.{drop_more, drop_all}
 use Rattle.std.proofs.lemmas.List.Edits.{length-between, get_or-between}
@@ -31,15 +31,14 @@ module _ (xs ys : List ℕ) where
 -- parts of two rows
 module _ (a b : List ℕ) (i j k l : ℕ) (low : i ≤ j) (high : j ≤ length a) (low_b : k ≤ l) (high_b : l ≤ length b) where
   pub parts-long : (l - k ≡ j - i → ⊥) → same (between i j a) (between k l b) ≡ false
-  parts-long h = same-long (between i j a) (between k l b) (λ e. h (omega (arith, length-between a i j high, length-between b k l high_b)))
+  parts-long h = grind (arith, same-long, length-between)
 
   pub parts_more : (n : ℕ) → l - k ≡ j - i → n < j - i → get_or a (i + n) 0 ≡ get_or b (k + n) 0 →
       same (drop n (between i j a)) (drop n (between k l b)) ≡ same (drop (n + 1) (between i j a)) (drop (n + 1) (between k l b))
-  parts_more n e h p = same_more (between i j a) (between k l b) n (omega (arith, length-between a i j high)) (omega (arith, length-between b k l high_b)) (get_or-between a i j n 0 (omega arith) ∙ p ∙ sym (get_or-between b k l n 0 (omega arith)))
+  parts_more n e h p = grind (arith, same_more, length-between, get_or-between)
 
   pub parts_not : (n : ℕ) → l - k ≡ j - i → n < j - i → (get_or a (i + n) 0 ≡ get_or b (k + n) 0 → ⊥) → same (drop n (between i j a)) (drop n (between k l b)) ≡ false
-  parts_not n e h p =
-      same_not (between i j a) (between k l b) n (omega (arith, length-between a i j high)) (omega (arith, length-between b k l high_b)) (λ q. p (sym (get_or-between a i j n 0 (omega arith)) ∙ q ∙ get_or-between b k l n 0 (omega arith)))
+  parts_not n e h p = grind (arith, same_not, length-between, get_or-between)
 
   pub parts-end : (n : ℕ) → l - k ≡ j - i → j - i ≤ n → same (drop n (between i j a)) (drop n (between k l b)) ≡ true
-  parts-end n e h = same_end (between i j a) (between k l b) n (omega (arith, length-between a i j high)) (omega (arith, length-between b k l high_b))
+  parts-end n e h = grind (arith, same_end, length-between)
