@@ -1,5 +1,5 @@
 -- A text asks for the command that is spelled so and fits, and for no other. Assumes nothing.
-use Rattle.std.proofs.Common.{◌≡◌, ℕ, ◌<◌, true, ◌&&◌, ltb, leb, List, [], ◌∷◌, ◌++◌, length, get_or, Some, None, sym, refl, ap, ◌∙◌, subst, ap₂, arith, ltb-true}
+use Rattle.std.proofs.Common.{◌≡◌, ℕ, ◌<◌, true, ltb, List, [], ◌∷◌, ◌++◌, length, get_or, Some, None, sym, refl, ap, ◌∙◌, subst, ap₂, arith, ltb-true}
 use borrow.Author.Tests.{clash}
 use Rattle.std.proofs.lemmas.List.{append_assoc, append-nil}
 use Rattle.std.proofs.lemmas.Bool.{and_parts, and_from}
@@ -15,7 +15,7 @@ use Rattle.language.proofs.HeadFacts.{either}
 use Rattle.language.proofs.ProgramFacts.{program_read, program_was}
 use Rattle.model.specs.Command.{Command, load, show, names, rename_bind, rename_param, rename_fun, extract, inline_bind, inline_call, turn_cond, drop_fun, undo, place_spelled, spelled, a_place, fits}
 use Rattle.model.specs.Whole.{Said}
-use Rattle.model.specs.Reading.{Ask, loading, asking, Asks, Field, Located, located, Target, target, name_in, index_in, place_in, last_name, target_in, last_target, whole, load_in, by_name, by_names, by_place, by_place_name, by_index_name, command_in, of_kind, asked}
+use Rattle.model.specs.Reading.{Ask, loading, asking, Asks, Field, Located, located, Target, target, last_name, target_in, whole, load_in, by_name, by_names, by_place, by_place_name, by_index_name, command_in, of_kind, asked}
 use Rattle.model.proofs.FieldFacts.{name_fields, index_fields, an_index, place_fields}
 
 -- nothing comes after it
@@ -37,9 +37,7 @@ last_was bs x bytes e =
     (w.0, w.1 ∙ ap (λ r. with_length f.value ++ r) (none_rest f.rest kept.0) ∙ append-nil (with_length f.value))
 
 target_read : (x : Name) (ks rest : List ℕ) → a_name x ≡ true → a_place ks ≡ true → target_in (with_length x ++ (place_spelled ks ++ rest)) ≡ Some (located x ks rest)
-target_read x ks rest h k =
-    ap (λ o. found o (λ (f : Field). found (place_in f.rest) (λ (g : Field). Some (located f.value g.value g.rest)))) (name_fields.read x (place_spelled ks ++ rest) h)
-    ∙ ap (λ o. found o (λ (g : Field). Some (located x g.value g.rest))) (place_fields.read ks rest k)
+target_read x ks rest h k = grind (arith, name_fields, place_fields)
 
 record TargetWas (bs : List ℕ) (t : Located) : Type 0 where
   name-fits : a_name t.function ≡ true
@@ -65,9 +63,7 @@ module _ (x : Name) (h : a_name x ≡ true) where
   name_reads c = ap (λ o. found o (λ y. Some (asking (c y)))) (last_read x h)
 
   names_reads : (c : Name → Name → Command) (y : Name) → a_name y ≡ true → by_names c (with_length x ++ with_length y) ≡ Some (asking (c x y))
-  names_reads c y k =
-      ap (λ o. found o (λ (f : Field). found (last_name f.rest) (λ z. Some (asking (c f.value z))))) (name_fields.read x (with_length y) h)
-      ∙ ap (λ o. found o (λ z. Some (asking (c x z)))) (last_read y k)
+  names_reads c y k = grind (arith, name_fields, last_read)
 
   place_reads : (c : Name → List ℕ → Command) (ks : List ℕ) → a_place ks ≡ true → by_place c (with_length x ++ place_spelled ks) ≡ Some (asking (c x ks))
   place_reads c ks k =
@@ -77,18 +73,11 @@ module _ (x : Name) (h : a_name x ≡ true) where
 
   place_name_reads : (c : Name → List ℕ → Name → Command) (ks : List ℕ) (y : Name) → a_place ks ≡ true → a_name y ≡ true →
       by_place_name c (with_length x ++ place_spelled ks ++ with_length y) ≡ Some (asking (c x ks y))
-  place_name_reads c ks y k l =
-      ap (by_place_name c) (append_assoc (with_length x) (place_spelled ks) (with_length y))
-      ∙ ap (λ o. found o (λ (t : Located). found (last_name t.rest) (λ z. Some (asking (c t.function t.place z))))) (target_read x ks (with_length y) h k)
-      ∙ ap (λ o. found o (λ z. Some (asking (c x ks z)))) (last_read y l)
+  place_name_reads c ks y k l = grind (arith, append_assoc, target_read, last_read)
 
   index_name_reads : (c : Name → ℕ → Name → Command) (i : ℕ) (y : Name) → ltb i 16 ≡ true → a_name y ≡ true →
       by_index_name c (with_length x ++ i ∷ with_length y) ≡ Some (asking (c x i y))
-  index_name_reads c i y k l =
-      ap (λ o. found o (λ (f : Field). found (index_in f.rest) (λ (g : Field). found (last_name g.rest) (λ z. Some (asking (c f.value (get_or g.value 0 0) z))))))
-      (name_fields.read x (i ∷ with_length y) h)
-      ∙ ap (λ o. found o (λ (g : Field). found (last_name g.rest) (λ z. Some (asking (c x (get_or g.value 0 0) z))))) (index_fields.read (i ∷ []) (with_length y) k)
-      ∙ ap (λ o. found o (λ z. Some (asking (c x i z)))) (last_read y l)
+  index_name_reads c i y k l = grind (arith, name_fields, last_read)
 
 pub bytes_place : (ks : List ℕ) → a_place ks ≡ true → all_bytes (place_spelled ks) ≡ true
 bytes_place ks h = bytes_append (eight (length ks)) ks (bytes_eight (length ks)) (go ks (and_parts _ _ h).1)
@@ -98,12 +87,10 @@ bytes_place ks h = bytes_append (eight (length ks)) ks (bytes_eight (length ks))
     go (k ∷ ks) h = let q = and_parts _ _ h in bytes_first k ks (omega (arith, ltb-true _ _ q.0)) (go ks q.1)
 
 two_bytes : (k : ℕ) (x : Name) (ks : List ℕ) → k < 256 → a_name x ≡ true → a_place ks ≡ true → all_bytes (k ∷ (with_length x ++ place_spelled ks)) ≡ true
-two_bytes k x ks b h l = bytes_first k (with_length x ++ place_spelled ks) b (bytes_append (with_length x) (place_spelled ks) (bytes_name x h) (bytes_place ks l))
+two_bytes k x ks b h l = grind (arith, bytes_append, bytes_name, bytes_place)
 
 three_bytes : (k : ℕ) (x : Name) (ks : List ℕ) (y : Name) → k < 256 → a_name x ≡ true → a_place ks ≡ true → a_name y ≡ true → all_bytes (k ∷ (with_length x ++ place_spelled ks ++ with_length y)) ≡ true
-three_bytes k x ks y b h l m =
-    bytes_first k (with_length x ++ place_spelled ks ++ with_length y) b
-    (bytes_append (with_length x ++ place_spelled ks) (with_length y) (bytes_append (with_length x) (place_spelled ks) (bytes_name x h) (bytes_place ks l)) (bytes_name y m))
+three_bytes k x ks y b h l m = grind (arith, bytes_append, bytes_name, bytes_place)
 
 -- what a command that fits asks for, and that it is spelled in bytes
 record ReadSo (c : Command) : Type 0 where
@@ -316,9 +303,7 @@ asked-said text a e =
 -- what a text asks to load is a program's spelling
 pub asked_program : (text bs : List ℕ) → asked text ≡ Some (loading bs) → is_program bs ≡ true
 unfolding Asks
-asked_program text bs e =
-    let p = (asked-said text (loading bs) e).2 in
-    ap is_program (sym p.1) ∙ program_read p.0 (bytes_program p.0 p.2) p.2
+asked_program text bs e = grind (arith, asked-said, program_read, bytes_program)
 
 -- loading is asked for by the program's bytes
 pub load-asked : (text : List ℕ) (p : Program) → Said text (load p) → asked text ≡ Some (loading (program_spelled p))

@@ -12,7 +12,7 @@ use Rattle.language.specs.Names.{has, distinct}
 use Rattle.language.specs.Bare.{b_bind, bare, alike}
 use Rattle.language.specs.Spelling.{expr_spelled}
 use Rattle.language.specs.Fits.{a_name, an_expr}
-use Rattle.language.proofs.NameFacts.{same_sym, or_left_false, or_right_false, or_false, not_or, has-append}
+use Rattle.language.proofs.NameFacts.{same_sym, or_left_false, or_false, not_or, has-append}
 use Rattle.language.proofs.BareSpelling.{alike-bare, bare_alike}
 use Rattle.language.proofs.HeadFacts.{name_short}
 use Rattle.language.proofs.FitFacts.{bind_fit, fit_bind, bind-long}
@@ -86,13 +86,7 @@ none_at (p ∷ ps) (suc i) h = omega (arith, none_at ps i h)
 
 -- none of a row with x in it is p
 apart : (left right : List Name) (x p : Name) → has (left ++ x ∷ right) p ≡ false → (has left p ≡ false) × (same p x ≡ false) × (has right p ≡ false)
-apart left right x p h =
-    let split = sym (has-append left (x ∷ right) p) ∙ h in
-    let behind = or_right_false _ _ split in (
-      or_left_false _ _ split,
-      or_left_false _ _ behind,
-      or_right_false _ _ behind,
-    )
+apart left right x p h = grind (arith, has-append)
 
 none_before : (left right : List Name) (x : Name) → distinct (left ++ x ∷ right) ≡ true → has left x ≡ false
 unfolding distinct
@@ -131,21 +125,11 @@ module _ (left right : List Name) (body : Expr) (x y : Name) where
   -- where y is none of the others
   own-alike : an_expr body ≡ true → a_name y ≡ true → length old ≤ 16 → length (expr_spelled body) ≤ 65536 → distinct old ≡ true →
       has (left ++ right) y ≡ false → alike old body new (renamed x y body) ≡ clear x y false false body
-  own-alike fit fit_y few short apart-all other =
-      says_same (alike old body new (renamed x y body)) (clear x y false false body)
-      (alike_says old new body (renamed x y body) fit (renamed_fit body x y fit_y fit) few (few-new few) (omega arith)
-      (omega (arith, renamed-long body x y (name_short y fit_y).1)))
-      (clear-renamed body x y right left (none_before left right x apart-all)
-      (or_left_false _ _ (sym (has-append left right y) ∙ other)))
+  own-alike fit fit_y few short apart-all other = grind (arith, says_same, alike_says, renamed_fit, few-new, renamed-long, name_short, clear-renamed, right, left, none_before, or_left_false, has-append)
 
   own_split : an_expr body ≡ true → a_name y ≡ true → length old ≤ 16 → length (expr_spelled body) ≤ 65536 → distinct old ≡ true →
       (distinct new && alike old body new (renamed x y body)) ≡ (not (has (left ++ right) y) && clear x y false false body)
-  own_split fit fit_y few short apart-all =
-      ap (λ t. t && alike old body new (renamed x y body)) (distinct_put left right x y apart-all) ∙ go (has (left ++ right) y) refl
-    where
-      go : (t : Bool) → has (left ++ right) y ≡ t → (not t && alike old body new (renamed x y body)) ≡ (not t && clear x y false false body)
-      go true e = refl
-      go false e = own-alike fit fit_y few short apart-all e
+  own_split fit fit_y few short apart-all = grind (arith, distinct_put, left, right, own-alike)
 
 pub own-clear : OwnClear
 own-clear ps body i x y xs fit fit_y few short found apart-all =

@@ -1,10 +1,10 @@
 -- What stands at a place made a function leaves what the program means. The new function is added first, which nothing calls yet; then its call is
 -- put at the place, and runs as what stood there does wherever the names are given. Assumes nothing.
-use Rattle.std.proofs.Common.{◌≡◌, ℕ, suc, Bool, true, false, not, eqb, leb, List, [], ◌∷◌, ◌++◌, length, sym, refl, ap, ◌∙◌, subst, ap₂, arith}
+use Rattle.std.proofs.Common.{◌≡◌, ℕ, suc, Bool, true, false, eqb, leb, List, [], ◌∷◌, ◌++◌, length, sym, refl, ap, ◌∙◌, subst, ap₂, arith}
 use mathlib.Core.Path.{fun_ext}
 use borrow.Author.Tests.{clash}
 use Rattle.std.proofs.lemmas.Bool.{eq-eqb}
-use Rattle.language.specs.Basics.{pick, or, any, every, none_of, same}
+use Rattle.language.specs.Basics.{pick, or, any, every, same}
 use Rattle.language.specs.Bytes.{Name}
 use Rattle.language.specs.Expr.{Expr, call, Fun, Program, main}
 use Rattle.language.specs.Meaning.{wrong, Bound, look, fun_of, looked, binds, cames, more_cames, and_cames, eval_all, called, step, eval}
@@ -91,12 +91,7 @@ found_other (f ∷ fs) g h d = ap (pick (same f.name h) (f ∷ [])) (found_other
 found-added : (p : Program) (g : Fun) → there p g.name ≡ false → fun_of (p ++ g ∷ []) g.name ≡ g ∷ []
 unfolding fun_of
 found-added [] g d = pick_left (same g.name g.name) (g ∷ []) [] (same_refl g.name)
-found-added (f ∷ fs) g d = go (same f.name g.name) d (found-added fs g)
-  where
-    go : (t : Bool) → not (none_of (pick t (f ∷ []) (fun_of fs g.name))) ≡ false →
-        (there fs g.name ≡ false → fun_of (fs ++ g ∷ []) g.name ≡ g ∷ []) → pick t (f ∷ []) (fun_of (fs ++ g ∷ []) g.name) ≡ g ∷ []
-    go true d ih = absurd (clash (sym d))
-    go false d ih = ih d
+found-added (f ∷ fs) g d = grind (arith, found-added fs g)
 
 set-added : (p : Program) (x : Name) (g h : Fun) → same h.name x ≡ false → set_fun (p ++ h ∷ []) x g ≡ set_fun p x g ++ h ∷ []
 set-added [] x g h d = ap (λ k. k ∷ []) (pick_right (same h.name x) g h d)
@@ -137,11 +132,7 @@ module _ (p : Program) (f : Fun) (fs : List Fun) (found : fun_of p f.name ≡ f 
   not_there = or_left_false _ _ (or_right_false _ _ new)
 
   other : same y f.name ≡ false
-  other = go (same y f.name) refl
-    where
-      go : (t : Bool) → same y f.name ≡ t → same y f.name ≡ false
-      go true k = absurd (clash (sym not_there ∙ ap (λ x. there p x) (same_eq y f.name k) ∙ ap (λ gs. not (none_of gs)) found))
-      go false k = k
+  other = grind (arith, same_eq)
 
   in_added : fun_of added y ≡ made_fun y e ∷ []
   in_added = found-added p (made_fun y e) not_there

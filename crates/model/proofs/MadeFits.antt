@@ -1,7 +1,7 @@
 -- What a refactoring makes of what fits, fits: calls renamed, what is free, what is put for a name, and a call as lets. Each goes part by part.
 -- Assumes nothing.
-use Rattle.std.proofs.Common.{◌≡◌, ℕ, zero, suc, ◌≤◌, Bool, true, false, ◌&&◌, leb, List, [], ◌∷◌, ◌++◌, length, refl, ap, ◌∙◌}
-use Rattle.std.proofs.lemmas.Bool.{and_parts, and_from, le-leb}
+use Rattle.std.proofs.Common.{arith, ◌≡◌, ℕ, zero, suc, ◌≤◌, Bool, true, false, ◌&&◌, leb, List, [], ◌∷◌, ◌++◌, length, refl, ap, ◌∙◌}
+use Rattle.std.proofs.lemmas.Bool.{and_parts, and_from}
 use Rattle.language.specs.Basics.{pick, any, every, same}
 use Rattle.language.specs.Bytes.{Name}
 use Rattle.language.specs.Expr.{Expr, num, var, bin, call, bind, choice, tell, Exprs, no_exprs, expr_and, count_exprs}
@@ -100,7 +100,7 @@ vars_fit [] h = refl
 vars_fit (x ∷ xs) h = let both = and_parts _ _ h in and_from _ _ both.0 (vars_fit xs both.1)
 
 pub call_vars_fit : (f : Name) (xs : List Name) → a_name f ≡ true → length xs ≤ 16 → every a_name xs ≡ true → an_expr (call f (vars xs)) ≡ true
-call_vars_fit f xs named few own = fit_call f (vars xs) named (ap (λ n. leb n 16) (vars_count xs) ∙ le-leb _ _ few) (vars_fit xs own)
+call_vars_fit f xs named few own = grind (arith, fit_call, vars_count, vars_fit)
 
 abbrev pub Fit : Expr → Type 0
 Fit e = an_expr e ≡ true

@@ -1,10 +1,10 @@
 -- Whether something else at a place keeps the bare form of the whole is whether it keeps it there, under the names given there.
 -- Assumes nothing.
-use Rattle.std.proofs.Common.{◌≡◌, ℕ, zero, suc, Bool, List, [], ◌∷◌, sym, refl, ap, subst}
+use Rattle.std.proofs.Common.{arith, ◌≡◌, ℕ, zero, suc, Bool, List, [], ◌∷◌, sym, ap, subst}
 use mathlib.Core.List.{nil≢cons}
 use Rattle.language.specs.Bytes.{Name}
 use Rattle.language.specs.Expr.{Expr, num, var, bin, call, bind, choice, tell, Exprs, no_exprs, expr_and, exprs_in, parts}
-use Rattle.language.specs.Places.{nth_expr, in_some, at_place, put_nth, with_part, put_some, put_at}
+use Rattle.language.specs.Places.{nth_expr, at_place, put_nth, with_part, put_at}
 use Rattle.language.specs.Bare.{Bare, b_bin, b_call, b_bind, b_choice, b_tell, bare_and, bare, bare_all}
 use Rattle.language.proofs.PlaceFacts.{within}
 use Rattle.model.specs.Extract.{given_in, given_to, given_at}
@@ -35,10 +35,8 @@ part_says t xs (call f es) k c cs d h s = says_map t (ap (b_call f)) (λ e. cc) 
 part_says t xs (bind x a b) zero c cs d h s = says_map t (ap (λ z. b_bind z (bare (x ∷ xs) b))) (λ e. cc) (says_for t xs a c (cc) s)
 part_says t xs (bind x a b) (suc zero) c cs d h s = says_map t (ap (b_bind (bare xs a))) (λ e. cc) (says_for t (x ∷ xs) b c (cc) s)
 part_says t xs (bind x a b) (suc (suc k)) c cs d h s = absurd (nil≢cons h)
-part_says t xs (choice e a b) zero c cs d h s =
-    says_map t (ap (λ z. b_choice z (bare xs a) (bare xs b))) (λ e. cc) (says_for t xs e c (cc) s)
-part_says t xs (choice e a b) (suc zero) c cs d h s =
-    says_map t (ap (λ z. b_choice (bare xs e) z (bare xs b))) (λ e. cc) (says_for t xs a c (cc) s)
+part_says t xs (choice e a b) zero c cs d h s = grind arith
+part_says t xs (choice e a b) (suc zero) c cs d h s = grind arith
 part_says t xs (choice e a b) (suc (suc zero)) c cs d h s = says_map t (ap (b_choice (bare xs e) (bare xs a))) (λ e. cc) (says_for t xs b c (cc) s)
 part_says t xs (choice e a b) (suc (suc (suc k))) c cs d h s = absurd (nil≢cons h)
 part_says t xs (tell a) zero c cs d h s = says_map t (ap b_tell) (λ e. cc) (says_for t xs a c (cc) s)

@@ -1,5 +1,5 @@
 -- What is quiet comes to a number and tells nothing, in every program where its names are given: part by part. Assumes nothing.
-use Rattle.std.proofs.Common.{◌≡◌, ℕ, suc, ◌-◌, ◌≤◌, max, Bool, true, false, ◌&&◌, eqb, ltb, leb, List, [], ◌∷◌, length, sym, refl, ap, subst, arith, eqb-true, leb-true}
+use Rattle.std.proofs.Common.{◌≡◌, ℕ, suc, ◌-◌, ◌≤◌, Bool, true, false, eqb, ltb, leb, List, [], ◌∷◌, length, sym, refl, ap, subst, arith, eqb-true, leb-true}
 use borrow.Author.Tests.{clash}
 use Rattle.std.proofs.lemmas.Bool.{and_parts, ne_eqb}
 use Rattle.language.specs.Basics.{pick, or}
@@ -21,8 +21,7 @@ Ends r ds e v = Reach (came v []) (λ m. eval m r ds e)
 
 -- whatever an expression that ends comes to is its end
 pub ends-under : (r : Program) (ds : List Bound) (e : Expr) (v : ℕ) → Ends r ds e v → (n : ℕ) → Under (eval n r ds e) (came v [])
-ends-under r ds e v s n =
-    subst (Under (eval n r ds e)) (s.under (max n s.from) (omega arith)) (eval_up n (max n s.from) r ds e (omega arith))
+ends-under r ds e v s n = grind (arith, eval_up)
 
 -- differences and comparisons don't go wrong
 reckon-quiet : (k v w : ℕ) → or (eqb k 1) (leb 4 k) ≡ true → (u : ℕ) × (reckon k v w ≡ came u [])

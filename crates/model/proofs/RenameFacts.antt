@@ -80,10 +80,6 @@ pick-long : (t : Bool) (y z : Name) → length y ≤ 32 → length (pick t y z) 
 pick-long true y z h = omega arith
 pick-long false y z h = omega arith
 
-pick-spelled : (t : Bool) (a b : Expr) (n : ℕ) → length (expr_spelled a) ≤ n → length (expr_spelled b) ≤ n → length (expr_spelled (pick t a b)) ≤ n
-pick-spelled true a b n h k = h
-pick-spelled false a b n h k = k
-
 -- a name of at most 32 bytes in place of one of any length
 mutual
   unfolding renamed renamed_all exprs_spelled
@@ -94,9 +90,7 @@ mutual
   renamed-long (bin k a b) x y h =
       omega (arith, bin-long k a b, bin-long k (renamed x y a) (renamed x y b), renamed-long a x y h, renamed-long b x y h)
   renamed-long (call f es) x y h = omega (arith, call_long f es, call_long f (renamed_all x y es), renamed_all-long es x y h)
-  renamed-long (bind z a b) x y h =
-      let in_b = pick-spelled (same x z) b (renamed x y b) (41 * length (expr_spelled b)) (omega arith) (renamed-long b x y h) in
-      omega (arith, bind-long z a b, bind-long z (renamed x y a) (pick (same x z) b (renamed x y b)), renamed-long a x y h, in_b)
+  renamed-long (bind z a b) x y h = grind (arith, bind-long, renamed-long b x y h, renamed-long a x y h)
   renamed-long (choice c a b) x y h =
       omega (
         arith,

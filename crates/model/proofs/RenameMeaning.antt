@@ -1,8 +1,7 @@
 -- Renaming what is bound leaves what the program means as it was: a function is put in place of one that is alike without names,
 -- so the program's bare form is what it was. Assumes nothing.
-use Rattle.std.proofs.Common.{◌≡◌, ℕ, ◌≤◌, true, ◌&&◌, ltb, List, [], ◌∷◌, length, sym, refl, ap, ◌∙◌, arith}
+use Rattle.std.proofs.Common.{◌≡◌, ℕ, ◌≤◌, true, ◌&&◌, List, [], ◌∷◌, length, sym, refl, ap, ◌∙◌, arith}
 use Rattle.std.proofs.lemmas.Bool.{and_parts}
-use Rattle.language.specs.Basics.{every}
 use Rattle.language.specs.Bytes.{Name}
 use Rattle.language.specs.Expr.{Expr, num, var, bin, call, bind, choice, tell, Fun}
 use Rattle.language.specs.Meaning.{fun_of}
@@ -17,13 +16,13 @@ use Rattle.language.proofs.BareSpelling.{alike-bare}
 use Rattle.language.proofs.FitFacts.{bind_fit, fit_bind}
 use Rattle.language.proofs.PlaceFits.{at_fit, put_fit}
 use Rattle.language.proofs.ProgramFits.{body_short, found-fits}
-use Rattle.model.specs.Command.{rename_bind, rename_param, a_place, fits}
+use Rattle.model.specs.Command.{rename_bind, rename_param, fits}
 use Rattle.model.specs.State.{Plain, no, now_is, with_body, set_fun, put_in, fine}
 use Rattle.model.specs.Rename.{renamed, bind_renamed, put_name, nth_name, param_renamed}
 use Rattle.model.specs.Model.{turn}
 use Rattle.model.proofs.SetFacts.{found_name, set_here}
 use Rattle.model.proofs.Kept.{Kept, kept-refused, kept-pick, kept-now, kept-fun, kept_expr}
-use Rattle.model.proofs.RenameFacts.{names_of, set-bare, renamed_fit, put_name-long}
+use Rattle.model.proofs.RenameFacts.{set-bare, renamed_fit, put_name-long}
 
 module _ (w : Plain) (x : Name) (f : Fun) (fs : List Fun) (is_fine : fine w.now ≡ true) (fit : a_program w.now ≡ true)
     (found : fun_of w.now x ≡ f ∷ fs) where

@@ -1,6 +1,6 @@
 -- What is made of a program that fits is a program that fits: every function of it does, and a turn tests how large it is. So do the programs that
 -- can be gone back to, of which there are at most eight. Assumes nothing.
-use Rattle.std.proofs.Common.{◌≡◌, ℕ, ◌≤◌, Bool, true, not, ◌&&◌, ltb, leb, List, [], ◌∷◌, length, sym, refl, ap, ◌∙◌, arith, length-take}
+use Rattle.std.proofs.Common.{◌≡◌, ℕ, ◌≤◌, Bool, true, not, leb, List, [], ◌∷◌, length, sym, refl, ap, ◌∙◌, arith, length-take}
 use Rattle.std.proofs.lemmas.Bool.{and_parts, and_from}
 use Rattle.language.specs.Basics.{every, same}
 use Rattle.language.specs.Bytes.{in_bytes, Name}
@@ -10,11 +10,11 @@ use Rattle.language.specs.Names.{free, distinct}
 use Rattle.language.specs.Spelling.{program_spelled}
 use Rattle.language.specs.Fits.{a_name, an_expr, a_fun, a_program}
 use Rattle.language.proofs.ListFacts.{every_take, every_append, every-those, every_so, every-each}
-use Rattle.language.proofs.FitFacts.{bind_fit, choice_fit, fit_bin, fit_bind, fit_choice, pick_true}
+use Rattle.language.proofs.FitFacts.{bind_fit, choice_fit, fit_bin, fit_bind, fit_choice}
 use Rattle.language.proofs.NodeFacts.{head-fits}
 use Rattle.language.proofs.PlaceFits.{at_fit, put_fit}
 use Rattle.language.proofs.ProgramFits.{found-every, fun-fits, fit_fun, program_fits, fit_program}
-use Rattle.model.specs.Command.{Command, load, show, names, rename_bind, rename_param, rename_fun, extract, inline_bind, inline_call, turn_cond, drop_fun, undo, a_place, fits}
+use Rattle.model.specs.Command.{Command, load, show, names, rename_bind, rename_param, rename_fun, extract, inline_bind, inline_call, turn_cond, drop_fun, undo, fits}
 use Rattle.model.specs.State.{Plain, at_first, Turn, with_body, fine}
 use Rattle.model.specs.Rename.{renamed}
 use Rattle.model.specs.FunctionNames.{fun_renamed}
@@ -68,9 +68,7 @@ module _ (w : Plain) (funs : every a_fun w.now ≡ true) where
       (renamed_fit f.body m.from y named own.3))
 
   fun_funs : (x y : Name) → a_name y ≡ true → (f : Fun) → a_fun f ≡ true → a_fun (fun_renamed x y f) ≡ true
-  fun_funs x y named f h =
-      let own = fun-fits f h in
-      fit_fun (fun_renamed x y f) (pick_true a_name (same f.name x) y f.name named own.0) own.1 own.2 (recalled_fit f.body x y named own.3)
+  fun_funs x y named f h = grind (arith, recalled_fit)
 
   extract_funs : (x : Name) (ks : List ℕ) (y : Name) (p : Program) → a_name y ≡ true → MadeExtract w x ks y p → every a_fun p ≡ true
   extract_funs x ks y p named m =
@@ -117,9 +115,7 @@ module _ (w : Plain) (funs : every a_fun w.now ≡ true) where
       bind_funs x ks y p (and_parts _ _ (and_parts _ _ fit).0).1 m
   made_funs (rename_param x i y) p fit m =
       param_funs x i y p (and_parts _ _ (and_parts _ _ fit).0).1 m
-  made_funs (rename_fun x y) p fit m =
-      ap (every a_fun) m.made
-      ∙ every-each a_fun a_fun (fun_renamed x y) (fun_funs x y (and_parts _ _ fit).1) w.now funs
+  made_funs (rename_fun x y) p fit m = grind (arith, every-each, fun_funs, and_parts)
   made_funs (extract x ks y) p fit m =
       extract_funs x ks y p (and_parts _ _ (and_parts _ _ fit).0).1 m
   made_funs (inline_bind x ks) p fit m = inline_funs x ks p m
@@ -182,6 +178,4 @@ sound_stays w c fit s =
     }
   where
     short : every (λ p. leb (length (program_spelled p)) 65536) w.before ≡ true
-    short =
-        every_so a_program (λ p. leb (length (program_spelled p)) 65536)
-        (λ p h. (and_parts (leb (length p) 1024 && every a_fun p) (leb (length (program_spelled p)) 65536) h).1) w.before s.before_fit
+    short = grind (arith, every_so, and_parts)
