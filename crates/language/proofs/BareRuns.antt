@@ -125,7 +125,7 @@ pub eval-bare : (n : ℕ) (p : Program) (xs : List Name) (vs : List ℕ) (e : Ex
     eval n p (values_in xs vs) e ≡ bare-eval n (each bare_fun p) vs (bare xs e)
 unfolding eval bare-eval SameEv
 eval-bare zero p xs vs e = refl
-eval-bare (suc n) p xs vs e = step-bare p (eval n p) (bare-eval n (each bare_fun p)) (eval-bare n p) xs vs e
+eval-bare (suc n) p xs vs e = grind (arith, step-bare, eval-bare n p)
 
 -- in two programs whose functions differ only in their own names
 pub alike_in_both : (n : ℕ) (p q : Program) → each bare_fun p ≡ each bare_fun q → (xs ys : List Name) (vs : List ℕ) (a b : Expr) →

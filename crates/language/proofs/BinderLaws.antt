@@ -11,7 +11,7 @@ use Rattle.language.specs.Names.{distinct}
 use Rattle.language.specs.Spelling.{expr_spelled, fun_spelled, program_spelled}
 use Rattle.language.specs.Fits.{a_name, an_expr, a_fun, a_program}
 use Rattle.language.specs.Heads.{head_of, head_spelled}
-use Rattle.language.specs.Reading.{found, Token, name_end, times}
+use Rattle.language.specs.Reading.{found, name_end, times}
 use Rattle.language.specs.Contents.{own_names, body_of}
 use Rattle.language.specs.Binders.{binder, let_of, let_at, own_at, own_binder}
 use Rattle.language.proofs.ListFacts.{every-parts, flat_append}
@@ -29,7 +29,7 @@ use Rattle.language.proofs.ChangeLaws.{fun_split, body_from, body_at, changed-sp
 -- a let
 module _ (bs : List ℕ) (bytes : all_bytes bs ≡ true) (i : ℕ) where
   pub let-head : (c : Expr) → an_expr c ≡ true → Stands bs i (expr_spelled c) → let_at bs i ≡ let_of bs i (i + length (head_spelled (head_of c))) (head_of c)
-  let-head c fit s = ap (λ o. found o (λ (t : Token). let_of bs i t.end t.head)) (head_read bs i c fit s)
+  let-head c fit s = grind (arith, head_read)
 
   pub let_some : (z : Name) (a b : Expr) → an_expr (bind z a b) ≡ true → Stands bs i (expr_spelled (bind z a b)) →
       let_at bs i ≡ Some (binder z (i + 1) (i + 1 + (length (with_length z) + length (expr_spelled a))))

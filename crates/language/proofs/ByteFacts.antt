@@ -1,5 +1,5 @@
 -- What fits is spelled in bytes. Assumes nothing.
-use Rattle.std.proofs.Common.{◌≡◌, ℕ, zero, suc, ◌/◌, ◌%◌, ◌<◌, Bool, true, ltb, List, [], ◌∷◌, ◌++◌, length, refl, arith, ltb-true, lt-ltb, leb-true}
+use Rattle.std.proofs.Common.{◌≡◌, ℕ, zero, suc, ◌/◌, ◌%◌, ◌<◌, Bool, true, ltb, List, [], ◌∷◌, ◌++◌, refl, arith, ltb-true, lt-ltb, leb-true}
 use Rattle.std.proofs.lemmas.Bool.{and_parts, and_from}
 use Rattle.language.specs.Basics.{every, flat}
 use Rattle.language.specs.Bytes.{Name, in_bytes, eight, with_length, all_bytes}
@@ -23,7 +23,7 @@ pub bytes_eight : (n : ℕ) → all_bytes (eight n) ≡ true
 bytes_eight n = bytes_in 8 n [] refl
 
 pub bytes_name : (x : Name) → a_name x ≡ true → all_bytes (with_length x) ≡ true
-bytes_name x h = bytes_append (eight (length x)) x (bytes_eight (length x)) (and_parts _ _ h).1
+bytes_name x h = grind (arith, bytes_append, bytes_eight)
 
 mutual
   unfolding expr_spelled an_expr

@@ -1,5 +1,5 @@
 -- One name, or one function, after the other. Assumes nothing.
-use Rattle.std.proofs.Common.{arith, ◌≡◌, ℕ, suc, ◌+◌, true, false, ◌&&◌, List, [], ◌∷◌, Some, None, ap, ◌∙◌, ap₂}
+use Rattle.std.proofs.Common.{arith, ◌≡◌, ℕ, suc, ◌+◌, true, false, ◌&&◌, List, [], ◌∷◌, Some, None, ap, ◌∙◌}
 use Rattle.std.specs.List.{between}
 use Rattle.language.specs.Basics.{pick, or, same}
 use Rattle.language.specs.Bytes.{Name}
@@ -28,10 +28,10 @@ module _ (bs : List ℕ) (x : Name) (i n m : ℕ) where
   find_here e j p t = grind (arith, at_name)
 
   pub find_cut : n ≡ suc m → (j : ℕ) → name_end bs i ≡ Some j → same (name_there bs i) x ≡ false → fun_end bs i ≡ None → find_from n bs x i ≡ None
-  find_cut e j p t f = at_name e j p ∙ ap₂ (λ b o. pick b (Some i) (found o (λ k. find_from m bs x k))) t f
+  find_cut e j p t f = grind (arith, at_name)
 
   pub find_more : n ≡ suc m → (j k : ℕ) → name_end bs i ≡ Some j → same (name_there bs i) x ≡ false → fun_end bs i ≡ Some k → find_from n bs x i ≡ find_from m bs x k
-  find_more e j k p t f = at_name e j p ∙ ap₂ (λ b o. pick b (Some i) (found o (λ k. find_from m bs x k))) t f
+  find_more e j k p t f = grind (arith, at_name)
 
 -- names, one after the other
 module _ (bs : List ℕ) (i n m : ℕ) where
@@ -44,7 +44,7 @@ module _ (bs : List ℕ) (i n m : ℕ) where
   names_none e = ap (λ k. names_from k bs i) e
 
   pub names-cut : n ≡ suc m → name_end bs i ≡ None → names_from n bs i ≡ []
-  names-cut e p = names-turn e ∙ ap (λ o. listed o (λ j. between (i + 8) j bs ∷ names_from m bs j)) p
+  names-cut e p = grind (arith, names-turn)
 
   pub names_more : n ≡ suc m → (j : ℕ) → name_end bs i ≡ Some j → names_from n bs i ≡ name_there bs i ∷ names_from m bs j
   names_more e j p = grind (arith, names-turn)
@@ -100,10 +100,10 @@ module _ (bs : List ℕ) (i n m : ℕ) where
   owns_none e = ap (λ k. owns_differ k bs i) e
 
   pub owns_not : n ≡ suc m → distinct (own_names bs i) ≡ false → owns_differ n bs i ≡ false
-  owns_not e t = owns_turn e ∙ ap (λ b. b && passed (fun_end bs i) (λ k. owns_differ m bs k)) t
+  owns_not e t = grind (arith, owns_turn)
 
   pub owns_cut : n ≡ suc m → distinct (own_names bs i) ≡ true → fun_end bs i ≡ None → owns_differ n bs i ≡ true
-  owns_cut e t f = owns_turn e ∙ ap₂ (λ b o. b && passed o (λ k. owns_differ m bs k)) t f
+  owns_cut e t f = grind (arith, owns_turn)
 
   pub owns_more : n ≡ suc m → (k : ℕ) → distinct (own_names bs i) ≡ true → fun_end bs i ≡ Some k → owns_differ n bs i ≡ owns_differ m bs k
-  owns_more e k t f = owns_turn e ∙ ap₂ (λ b o. b && passed o (λ k. owns_differ m bs k)) t f
+  owns_more e k t f = grind (arith, owns_turn)

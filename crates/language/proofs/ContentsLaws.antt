@@ -11,7 +11,7 @@ use Rattle.language.specs.Meaning.{fun_of}
 use Rattle.language.specs.Names.{distinct}
 use Rattle.language.specs.Spelling.{fun_spelled, program_spelled}
 use Rattle.language.specs.Fits.{a_name, a_fun, a_program}
-use Rattle.language.specs.Reading.{found, number_at, name_end, fun_end}
+use Rattle.language.specs.Reading.{number_at, name_end, fun_end}
 use Rattle.language.specs.Contents.{listed, passed, name_there, names_from, own_names, fun_names, owns_differ, is_fine, find_from, find_function}
 use Rattle.language.proofs.StandsFacts.{Stands, stands-first, stands-second, stands-taken, length-eight, number_stands}
 use Rattle.language.proofs.HeadFacts.{length_with, name-stands, name_bytes}
@@ -75,10 +75,10 @@ module _ (bs : List ℕ) (i n m : ℕ) where
   at_fun-name e j p = grind (arith, fun_names-turn)
 
   pub fun_names-cut : n ≡ suc m → (j : ℕ) → name_end bs i ≡ Some j → fun_end bs i ≡ None → fun_names n bs i ≡ name_there bs i ∷ []
-  fun_names-cut e j p f = at_fun-name e j p ∙ ap (λ o. name_there bs i ∷ listed o (λ k. fun_names m bs k)) f
+  fun_names-cut e j p f = grind (arith, at_fun-name)
 
   pub fun_names_more : n ≡ suc m → (j k : ℕ) → name_end bs i ≡ Some j → fun_end bs i ≡ Some k → fun_names n bs i ≡ name_there bs i ∷ fun_names m bs k
-  fun_names_more e j k p f = at_fun-name e j p ∙ ap (λ o. name_there bs i ∷ listed o (λ k. fun_names m bs k)) f
+  fun_names_more e j k p f = grind (arith, at_fun-name)
 
 -- functions stand there: what is read of the first, and where the others stand
 pub record NextFun (bs : List ℕ) (i : ℕ) (f : Fun) (rest : List Fun) : Type 0 where
@@ -112,13 +112,13 @@ module _ (bs : List ℕ) (bytes : all_bytes bs ≡ true) where
       r = and_parts _ _ (and_parts _ _ q.0).0
 
       here : Stands bs i (fun_spelled f)
-      here = stands-first bs i (fun_spelled f) (flat fun_spelled rest) s
+      here = grind (arith, stands-first)
 
       names : Stands bs i (with_length f.name ++ params_spelled f.params)
       names = grind (arith, stands-first, params_spelled, append_assoc, here)
 
       name : Stands bs i (with_length f.name)
-      name = stands-first bs i (with_length f.name) (params_spelled f.params) names
+      name = grind (arith, stands-first)
 
   pub names_law : (i : ℕ) (fs : List Fun) → every a_fun fs ≡ true → Stands bs i (flat fun_spelled fs) → fun_names (length fs) bs i ≡ each (λ f. f.name) fs
   names_law i [] fit s = fun_names_none bs i 0 0 refl
@@ -215,7 +215,7 @@ module _ (p : Program) (fit : a_program p ≡ true) where
   fine_law = grind (arith, program_number, names_law, bytes_program, program_fits, program_funs, owns_law)
 
   find_in : (x : Name) → find_function (program_spelled p) x ≡ find_from (length p) (program_spelled p) x 8
-  find_in x = ap (λ o. found o (λ n. find_from n (program_spelled p) x 8)) (program_number p fit)
+  find_in x = grind (arith, program_number)
 
   pub find_program_none : (x : Name) → fun_of p x ≡ [] → find_function (program_spelled p) x ≡ None
   find_program_none x h = grind (arith, find_in, find_law_none, bytes_program, program_fits, program_funs)

@@ -23,8 +23,7 @@ spelled-next e es = grind (arith, spelled_node, append_assoc, flat_append)
 
 pub spelled_count : (es : List Expr) → length es ≤ length (flat expr_spelled es)
 spelled_count [] = omega arith
-spelled_count (e ∷ es) =
-    omega (arith, spelled_nine e, spelled_count es, length-append (expr_spelled e) (flat expr_spelled es))
+spelled_count (e ∷ es) = grind (arith, spelled_nine, length-append, spelled_count es)
 
 -- where expressions stand, the first one's head stands, and after it its parts and the others
 module _ (bs : List ℕ) (i : ℕ) (e : Expr) (es : List Expr) (s : Stands bs i (flat expr_spelled (e ∷ es))) where

@@ -15,11 +15,11 @@ use Rattle.language.proofs.ReadingFacts.{found_some, pick_some, pick-found}
 use Rattle.language.proofs.StandsFacts.{Stands, stands-first, stands-second, stands_join, stands_in, stands-taken, taken-stands, stands_byte, byte_stands, length-eight, number_stands, NumberThere, number_there}
 
 pub length_with : (x : List ℕ) → length (with_length x) ≡ 8 + length x
-length_with x = length-append (eight (length x)) x ∙ ap (λ k. k + length x) (length-eight (length x))
+length_with x = grind (arith, length-append, length-eight)
 
 -- a name that fits has 1 to 32 bytes
 pub name_short : (x : Name) → a_name x ≡ true → (1 ≤ length x) × (length x ≤ 32)
-name_short x h = let q = and_parts _ _ (and_parts _ _ h).0 in (leb-true _ _ q.0, leb-true _ _ q.1)
+name_short x h = grind arith
 
 -- a name that stands there is read
 module _ (bs : List ℕ) (i : ℕ) (x : Name) (fits : a_name x ≡ true) (h : Stands bs i (with_length x)) where
@@ -50,7 +50,7 @@ module _ (bs : List ℕ) (i n : ℕ) (bytes : all_bytes bs ≡ true) (there : Nu
   name-fits = grind (arith, name-length, every_take, every_drop)
 
   bytes_stand : Stands bs (i + 8) (between (i + 8) (i + 8 + n) bs)
-  bytes_stand = taken-stands bs (i + 8) (i + 8 + n - (i + 8)) _ (omega (arith, name-length)) refl
+  bytes_stand = grind (arith, taken-stands, name-length)
 
   name_all_stands : Stands bs i (with_length (between (i + 8) (i + 8 + n) bs))
   name_all_stands = grind (arith, stands_join, name-length, length-eight, bytes_stand)

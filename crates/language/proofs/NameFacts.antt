@@ -24,11 +24,7 @@ same_sym x y = go (same x y) (same y x) refl refl
     go true true p q = refl
     go false false p q = refl
     go true false p q = absurd (clash (sym q ∙ ap (λ z. same z x) (sym (same_eq x y p)) ∙ same_refl x))
-    go false true p q = absurd (clash (sym p ∙ ap (λ z. same z y) (sym (same_eq y x q)) ∙ same_refl y))
-
-pub or_assoc : (a b c : Bool) → or (or a b) c ≡ or a (or b c)
-or_assoc true b c = refl
-or_assoc false b c = refl
+    go false true p q = grind (arith, same_eq)
 
 pub or_false : (a : Bool) → or a false ≡ a
 or_false true = refl
@@ -56,7 +52,7 @@ not_or false b = refl
 
 pub has-append : (xs ys : List Name) (x : Name) → has (xs ++ ys) x ≡ or (has xs x) (has ys x)
 has-append [] ys x = refl
-has-append (z ∷ zs) ys x = ap (or (same x z)) (has-append zs ys x) ∙ sym (or_assoc (same x z) (has zs x) (has ys x))
+has-append (z ∷ zs) ys x = grind (arith, has-append zs ys x)
 
 -- a name that is put in only if it is not there yet
 pub has_put : (xs : List Name) (y x : Name) → has (pick (has xs y) xs (xs ++ y ∷ [])) x ≡ or (has xs x) (same x y)
@@ -65,7 +61,7 @@ has_put xs y x = go (has xs y) (same x y) refl refl
     go : (t s : Bool) → has xs y ≡ t → same x y ≡ s → has (pick t xs (xs ++ y ∷ [])) x ≡ or (has xs x) s
     go true true h k = grind (arith, same_eq)
     go true false h k = sym (or_false (has xs x))
-    go false s h k = has-append xs (y ∷ []) x ∙ ap (or (has xs x)) (or_false (same x y) ∙ k)
+    go false s h k = grind (arith, has-append)
 
 pub has-joined : (xs ys : List Name) (x : Name) → has (joined xs ys) x ≡ or (has xs x) (has ys x)
 unfolding joined

@@ -1,11 +1,11 @@
 -- An expression is its head and its parts: how it is spelled, when it fits, and that any head with so many parts is one. Assumes nothing.
-use Rattle.std.proofs.Common.{◌≡◌, suc, ◌≤◌, Bool, true, false, ◌&&◌, leb, List, [], ◌∷◌, ◌++◌, length, get_or, sym, refl, ap, ◌∙◌, ap₂, arith}
+use Rattle.std.proofs.Common.{◌≡◌, suc, ◌≤◌, Bool, true, false, ◌&&◌, List, [], ◌∷◌, ◌++◌, length, get_or, sym, refl, ap, ◌∙◌, ap₂, arith}
 use Rattle.std.proofs.lemmas.List.{append_assoc, append-nil}
 use Rattle.std.proofs.lemmas.Bool.{and_parts, and_from}
 use Rattle.language.specs.Basics.{every, flat}
 use Rattle.language.specs.Expr.{Expr, Exprs, num, var, bin, call, bind, choice, tell, no_exprs, expr_and, exprs_in, count_exprs, parts}
 use Rattle.language.specs.Spelling.{expr_spelled, exprs_spelled}
-use Rattle.language.specs.Fits.{a_name, an_expr, all_exprs}
+use Rattle.language.specs.Fits.{an_expr, all_exprs}
 use Rattle.language.specs.Heads.{Head, h_num, h_var, h_bin, h_call, h_bind, h_choice, h_tell, head_of, arity, head_spelled, a_head}
 
 pub spelled-all : (es : Exprs) → exprs_spelled es ≡ flat expr_spelled (exprs_in es)
@@ -27,7 +27,7 @@ pub spelled_node : (e : Expr) → expr_spelled e ≡ head_spelled (head_of e) ++
 unfolding expr_spelled head_spelled head_of parts
 spelled_node (num n) = ap (λ r. 0 ∷ r) (sym (append-nil _))
 spelled_node (var x) = ap (λ r. 1 ∷ r) (sym (append-nil _))
-spelled_node (bin k a b) = ap (λ r. 2 ∷ k ∷ (expr_spelled a ++ r)) (sym (append-nil _))
+spelled_node (bin k a b) = grind (arith, append-nil)
 spelled_node (call f es) = grind (arith, spelled-all, append_assoc)
 spelled_node (bind x a b) = grind (arith, append_assoc, append-nil)
 spelled_node (choice c a b) = grind (arith, append_assoc, append-nil)
@@ -51,10 +51,10 @@ pub fits_node : (e : Expr) → an_expr e ≡ (a_head (head_of e) && every an_exp
 unfolding an_expr a_head head_of parts
 fits_node (num n) = and-true _
 fits_node (var x) = and-true _
-fits_node (bin k a b) = ap (λ t. a_head (h_bin k) && (an_expr a && t)) (and-true (an_expr b))
-fits_node (call f es) = ap (λ t. (a_name f && leb (count_exprs es) 16) && t) (fit_all es)
-fits_node (bind x a b) = ap (λ t. a_name x && (an_expr a && t)) (and-true (an_expr b))
-fits_node (choice c a b) = ap (λ t. an_expr c && (an_expr a && t)) (and-true (an_expr b))
+fits_node (bin k a b) = grind arith
+fits_node (call f es) = grind (arith, fit_all)
+fits_node (bind x a b) = grind arith
+fits_node (choice c a b) = grind arith
 fits_node (tell a) = and-true _
 
 pub head-fits : (e : Expr) → an_expr e ≡ true → (a_head (head_of e) ≡ true) × (every an_expr (parts e) ≡ true)

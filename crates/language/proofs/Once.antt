@@ -8,7 +8,7 @@ use Rattle.language.specs.Bytes.{Name, eight, with_length}
 use Rattle.language.specs.Expr.{Expr, num, parts, Fun, Program}
 use Rattle.language.specs.Spelling.{expr_spelled, fun_spelled, program_spelled}
 use Rattle.language.specs.Fits.{a_name, an_expr, a_fun, a_program}
-use Rattle.language.specs.Heads.{head_of, arity, head_spelled, a_head}
+use Rattle.language.specs.Heads.{head_of, head_spelled, a_head}
 use Rattle.language.specs.Reading.{Token}
 use Rattle.language.proofs.ListFacts.{every_append}
 use Rattle.language.proofs.StandsFacts.{Stands, stands-first, stands-second, stands_in, length-eight, number_stands}
@@ -51,7 +51,7 @@ module _ (n : ℕ) (bs : List ℕ) (again : SameExprs n bs) (i : ℕ) (e d : Exp
   heads = head_once bs i (head_of e) (head_of d) (head-fits e fit_e.0).0 (head-fits d fit_d.0).0 (first-stands bs i e es s) (first-stands bs i d ds t)
 
   long : length (parts d) ≡ length (parts e)
-  long = parts-arity d ∙ ap arity (sym heads) ∙ sym (parts-arity e)
+  long = grind (arith, parts-arity, heads)
 
   others : parts e ++ es ≡ parts d ++ ds
   others =

@@ -23,7 +23,7 @@ byte_of (w ∷ ws) (suc q) r i h k e =
 
 -- of the first n bytes
 pub front_past : (ws : List ℕ) (n i : ℕ) → n ≤ i → get_or (take n (flat eight ws)) i 0 ≡ 0
-front_past ws n i h = get_or_past (take n (flat eight ws)) i 0 (omega (arith, length-take n (flat eight ws)))
+front_past ws n i h = grind (arith, get_or_past, length-take)
 
 front_none : (ws : List ℕ) (n i : ℕ) → length ws ≤ i / 8 → get_or (take n (flat eight ws)) i 0 ≡ 0
 front_none ws n i h = grind (arith, get_or_past, length-take, length-packed)

@@ -13,11 +13,11 @@ use Rattle.language.proofs.PackedFacts.{front_at, front_length}
 
 pub length_packed_words : (bs : List ℕ) → length (packed bs) ≡ words_for (length bs)
 unfolding packed
-length_packed_words bs = length-map-range_with_len (word_of bs) 0 (words_for (length bs))
+length_packed_words bs = grind (arith, length-map-range_with_len)
 
 pub packed_word : (bs : List ℕ) (k : ℕ) → k < words_for (length bs) → get_or (packed bs) k 0 ≡ word_of bs k
 unfolding packed
-packed_word bs k h = get_or-map-range_with_len (word_of bs) 0 (words_for (length bs)) k k 0 h (omega arith)
+packed_word bs k h = grind (arith, get_or-map-range_with_len)
 
 -- the bytes of the kth word
 eight_from : List ℕ → ℕ → List ℕ

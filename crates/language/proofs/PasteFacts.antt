@@ -11,10 +11,10 @@ part_same xs ys i j c h l e =
     (λ k b. get_or-take c (drop i xs) k 0 (omega (arith, long-x)) ∙ get_or-drop i xs k 0 ∙ e k (omega (arith, long-x)) ∙ sym (get_or-take c (drop j ys) k 0 (omega (arith, long-x)) ∙ get_or-drop j ys k 0))
   where
     long-x : length (take c (drop i xs)) ≡ c
-    long-x = length-take-le c (drop i xs) (omega (arith, length-drop i xs))
+    long-x = grind (arith, length-take-le, length-drop)
 
     long-y : length (take c (drop j ys)) ≡ c
-    long-y = length-take-le c (drop j ys) (omega (arith, length-drop j ys))
+    long-y = grind (arith, length-take-le, length-drop)
 
 module _ (d s : List ℕ) (a n : ℕ) (room : a + n ≤ length d) (enough : n ≤ length s) where
   long-a : length (take a d) ≡ a

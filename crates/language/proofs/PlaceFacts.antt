@@ -1,6 +1,6 @@
 -- Places, part by part: what was put at one is there, and putting there what stands there changes nothing. A part put for another keeps the head
 -- and the other parts, and so the bytes around it. Assumes nothing.
-use Rattle.std.proofs.Common.{arith, ◌≡◌, ℕ, zero, suc, Bool, true, false, eqb, List, [], ◌∷◌, ◌++◌, take, drop, sym, refl, ap, ◌∙◌}
+use Rattle.std.proofs.Common.{arith, ◌≡◌, ℕ, zero, suc, Bool, true, false, eqb, List, [], ◌∷◌, ◌++◌, take, drop, refl, ap, ◌∙◌}
 use mathlib.Core.List.{nil≢cons}
 use Rattle.std.proofs.lemmas.List.{append_assoc}
 use Rattle.language.specs.Basics.{pick, flat}
@@ -74,7 +74,7 @@ part_put (tell a) (suc k) c cs d h = absurd (nil≢cons h)
 
 -- the kth part, put in place, is the kth part
 part_again : (a : Expr) (k : ℕ) (e c : Expr) (cs : List Expr) → nth_expr (parts a) k ≡ c ∷ cs → nth_expr (parts (with_part a k e)) k ≡ e ∷ []
-part_again a k e c cs h = ap (λ es. nth_expr es k) (part_put a k c cs e h) ∙ nth_new (parts a) k c cs e h
+part_again a k e c cs h = grind (arith, part_put, nth_new)
 
 -- the kth part put where it is
 part_same : (a : Expr) (k : ℕ) (c : Expr) (cs : List Expr) → nth_expr (parts a) k ≡ c ∷ cs → with_part a k c ≡ a
@@ -92,7 +92,7 @@ module _ (e : Expr) (k : ℕ) (c : Expr) (cs : List Expr) (h : nth_expr (parts e
   put_part_spelled d = grind (arith, spelled_node, part-head, part_put, flat_append, append_assoc)
 
   pub part-spelled : expr_spelled e ≡ before_part e k ++ (expr_spelled c ++ after_part e k)
-  part-spelled = ap expr_spelled (sym (part_same e k c cs h)) ∙ put_part_spelled c
+  part-spelled = grind (arith, part_same, put_part_spelled)
 
 -- What stands at a longer place stands at the rest of it in a part, and what is put there is put there in that part.
 pub record Within (e : Expr) (k : ℕ) (ks : List ℕ) (c : Expr) (cs : List Expr) : Type 0 where

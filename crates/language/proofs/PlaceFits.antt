@@ -13,7 +13,7 @@ use Rattle.language.proofs.PlaceFacts.{part-head, part_put, within}
 pub nth_fit : (es : List Expr) (k : ℕ) (c : Expr) (cs : List Expr) → every an_expr es ≡ true → nth_expr es k ≡ c ∷ cs → an_expr c ≡ true
 unfolding nth_expr
 nth_fit [] k c cs h e = absurd (nil≢cons e)
-nth_fit (a ∷ as₁) zero c cs h e = let z : a ≡ c = cc in ap an_expr (sym z) ∙ (and_parts _ _ h).0
+nth_fit (a ∷ as₁) zero c cs h e = grind arith
 nth_fit (a ∷ as₁) (suc k) c cs h e = nth_fit as₁ k c cs (and_parts _ _ h).1 e
 
 pub at_fit : (ks : List ℕ) (a b : Expr) (bs : List Expr) → an_expr a ≡ true → at_place a ks ≡ b ∷ bs → an_expr b ≡ true

@@ -1,5 +1,5 @@
 -- How long an expression's spelling is when something else stands at a place of it: what is put there for what stood there. Assumes nothing.
-use Rattle.std.proofs.Common.{◌≡◌, ℕ, ◌+◌, ◌≤◌, List, [], ◌∷◌, ◌++◌, length, ap, arith}
+use Rattle.std.proofs.Common.{◌≡◌, ℕ, ◌+◌, ◌≤◌, List, [], ◌∷◌, length, ap, arith}
 use Rattle.std.proofs.lemmas.List.{length-append}
 use Rattle.language.specs.Expr.{Expr, parts}
 use Rattle.language.specs.Places.{nth_expr, at_place, with_part, put_at}
@@ -12,12 +12,10 @@ long e = length (expr_spelled e)
 -- with any expression for its kth part: what is around that, and that
 part-long : (a : Expr) (k : ℕ) (c : Expr) (cs : List Expr) (d : Expr) → nth_expr (parts a) k ≡ c ∷ cs →
     long (with_part a k d) ≡ length (before_part a k) + (long d + length (after_part a k))
-part-long a k c cs d h =
-    omega (arith, ap length (put_part_spelled a k c cs h d), length-append (before_part a k) (expr_spelled d ++ after_part a k), length-append (expr_spelled d) (after_part a k))
+part-long a k c cs d h = grind (arith, put_part_spelled, length-append)
 
 whole-long : (a : Expr) (k : ℕ) (c : Expr) (cs : List Expr) → nth_expr (parts a) k ≡ c ∷ cs → long a ≡ length (before_part a k) + (long c + length (after_part a k))
-whole-long a k c cs h =
-    omega (arith, ap length (part-spelled a k c cs h), length-append (before_part a k) (expr_spelled c ++ after_part a k), length-append (expr_spelled c) (after_part a k))
+whole-long a k c cs h = grind (arith, part-spelled, length-append)
 
 pub put_long : (ks : List ℕ) (a c : Expr) (cs : List Expr) (d : Expr) → at_place a ks ≡ c ∷ cs →
     length (expr_spelled (put_at a ks d)) + length (expr_spelled c) ≡ length (expr_spelled a) + length (expr_spelled d)

@@ -163,7 +163,7 @@ pub fun-parts : (f : Fun) → fun_spelled f ≡ with_length f.name ++ (params_sp
 fun-parts f = simp append_assoc
 
 pub fun-long : (f : Fun) → 0 < length (fun_spelled f)
-fun-long f = omega (arith, ap length (fun-parts f), length-append (with_length f.name) (params_spelled f.params ++ expr_spelled f.body), length_with f.name)
+fun-long f = grind (arith, length-append, length_with)
 
 module _ (bs : List ℕ) (bytes : all_bytes bs ≡ true) where
   three_read : Reads bs (fun_end bs) (λ (p : Name × (List Name × Expr)). with_length p.0 ++ (params_spelled p.1.0 ++ expr_spelled p.1.1))
@@ -200,11 +200,10 @@ module _ (bs : List ℕ) (bytes : all_bytes bs ≡ true) where
 
 -- what stands at the beginning and goes to the end is all
 pub all_there : (bs p : List ℕ) → Stands bs 0 p → length p ≡ length bs → bs ≡ p
-all_there bs p s l =
-    s ∙ ap (λ r. p ++ r) (drop_all (0 + length p) bs (omega arith)) ∙ append-nil p
+all_there bs p s l = grind (arith, drop_all, append-nil)
 
 pub whole-stands : (bs : List ℕ) → Stands bs 0 bs
-whole-stands bs = sym (append-nil bs) ∙ ap (λ l. bs ++ l) (sym (drop_all (0 + length bs) bs (omega arith)))
+whole-stands bs = grind (arith, append-nil, drop_all)
 
 pub split_stands : (a p b : List ℕ) → Stands (a ++ (p ++ b)) (length a) p
 split_stands a p b =

@@ -1,7 +1,7 @@
 -- A function of a program that fits: what every function has it has, and its body is no longer than the program. Assumes nothing.
 use Rattle.std.proofs.Common.{◌≡◌, ◌≤◌, Bool, true, false, List, [], ◌∷◌, length, sym, ap, ◌∙◌, arith, length-append}
 use mathlib.Core.List.{nil≢cons}
-use Rattle.std.proofs.lemmas.Bool.{and_parts, and_from, le-leb}
+use Rattle.std.proofs.lemmas.Bool.{and_parts}
 use Rattle.language.specs.Basics.{pick, every, flat, same}
 use Rattle.language.specs.Bytes.{Name}
 use Rattle.language.specs.Expr.{Fun, Program}
@@ -34,20 +34,14 @@ pub fun-fits : (f : Fun) → a_fun f ≡ true →
 fun-fits f h = grind arith
 
 pub fit_fun : (f : Fun) → a_name f.name ≡ true → length f.params ≤ 16 → every a_name f.params ≡ true → an_expr f.body ≡ true → a_fun f ≡ true
-fit_fun f named few own body =
-    and_from _ _
-    (and_from _ _ named
-    (and_from _ _ (le-leb _ _ few) own))
-    body
+fit_fun f named few own body = grind arith
 
 pub program_fits : (p : Program) → a_program p ≡ true →
     (length p ≤ 1024) × (every a_fun p ≡ true) × (length (program_spelled p) ≤ 65536)
 program_fits p h = grind arith
 
 pub fit_program : (p : Program) → length p ≤ 1024 → every a_fun p ≡ true → length (program_spelled p) ≤ 65536 → a_program p ≡ true
-fit_program p few funs short =
-    and_from _ _
-    (and_from _ _ (le-leb _ _ few) funs) (le-leb _ _ short)
+fit_program p few funs short = grind arith
 
 -- the function that is found, of a program that fits
 pub found-fits : (p : Program) (x : Name) (f : Fun) (fs : List Fun) → a_program p ≡ true → fun_of p x ≡ f ∷ fs →

@@ -56,7 +56,7 @@ unfolding then
 then_reach (came v ts) f G g r s = record { from = max r.from (s v).from; under = go }
   where
     go : (k : ℕ) → max r.from (s v).from ≤ k → Under (after_telling ts (f v)) (then (G k) (g k))
-    go k h = rw (r.under k (omega arith)) (after-under ts (f v) (g k v) ((s v).under k (omega arith)))
+    go k h = grind (arith, after-under)
 then_reach (wrong i ts) f G g r s = record { from = r.from; under = λ k h. rw (r.under k h) refl }
 then_reach deep f G g r s = reach_deep (λ m. then (G m) (g m))
 
@@ -69,7 +69,7 @@ pub and_reach : (c : Came) (f : ℕ → List ℕ → Cames) (G : ℕ → Came) (
 and_reach (came v ts) f G g r s = record { from = max r.from (s v ts).from; under = go }
   where
     go : (k : ℕ) → max r.from (s v ts).from ≤ k → Unders (f v ts) (and_cames (G k) (g k))
-    go k h = rw (r.under k (omega arith)) ((s v ts).under k (omega arith))
+    go k h = grind arith
 and_reach (wrong i ts) f G g r s = record { from = r.from; under = λ k h. rw (r.under k h) refl }
 and_reach deep f G g r s = record { from = 0; under = λ k h. tt }
 

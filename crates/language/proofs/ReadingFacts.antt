@@ -8,7 +8,7 @@ use Rattle.std.proofs.lemmas.List.{drop_more}
 use Rattle.std.specs.Int.Digits.{number_from_digits}
 
 pub take_next : (bs : List ℕ) (i j n : ℕ) → i < length bs → i + 1 ≡ j → take (suc n) (drop i bs) ≡ get_or bs i 0 ∷ take n (drop j bs)
-take_next bs i j n h e = ap (take (suc n)) (drop_more bs i 0 h ∙ ap (λ k. get_or bs i 0 ∷ drop k bs) e)
+take_next bs i j n h e = grind (arith, drop_more)
 
 pub take-eight : (bs : List ℕ) (i : ℕ) → i + 8 ≤ length bs →
     take 8 (drop i bs) ≡ get_or bs i 0 ∷ get_or bs (i + 1) 0 ∷ get_or bs (i + 2) 0 ∷ get_or bs (i + 3) 0 ∷ get_or bs (i + 4) 0 ∷ get_or bs (i + 5) 0 ∷ get_or bs (i + 6) 0 ∷ get_or bs (i + 7) 0 ∷ []
@@ -70,7 +70,7 @@ times_none s i (suc n) h e = ap (λ o. found o (λ j. times n s j)) e
 
 pub times_more : (s : ℕ → Option ℕ) (i j n m : ℕ) → n ≡ suc m → s i ≡ Some j → times n s i ≡ times m s j
 unfolding times
-times_more s i j n m p e = ap (λ k. times k s i) p ∙ ap (λ o. found o (λ k. times m s k)) e
+times_more s i j n m p e = grind arith
 
 -- what was found came from something that was found, or from a test that held
 pub found_some : {A B : Type 0} (o : Option A) (f : A → Option B) (b : B) → found o f ≡ Some b → (a : A) × (o ≡ Some a) × (f a ≡ Some b)

@@ -1,5 +1,5 @@
 -- Rows of bytes compared one byte after the other. Assumes nothing.
-use Rattle.std.proofs.Common.{◌≡◌, ℕ, ◌+◌, ◌-◌, ◌<◌, ◌≤◌, Bool, true, false, ◌&&◌, eqb, List, length, get_or, drop, refl, ap, ◌∙◌, ap₂, arith, eq-eqb, ne_eqb}
+use Rattle.std.proofs.Common.{◌≡◌, ℕ, ◌+◌, ◌-◌, ◌<◌, ◌≤◌, Bool, true, false, ◌&&◌, eqb, List, length, get_or, drop, refl, ap, ap₂, arith}
 use Rattle.std.specs.List.{between}
 use Rattle.std.proofs.lemmas.List.{drop_more, drop_all}
 use Rattle.std.proofs.lemmas.List.Edits.{length-between, get_or-between}
@@ -19,10 +19,10 @@ module _ (xs ys : List ℕ) where
   same_turn k h l = ap₂ same (drop_more xs k 0 h) (drop_more ys k 0 l)
 
   pub same_more : (k : ℕ) → k < length xs → k < length ys → get_or xs k 0 ≡ get_or ys k 0 → same (drop k xs) (drop k ys) ≡ same (drop (k + 1) xs) (drop (k + 1) ys)
-  same_more k h l e = same_turn k h l ∙ ap (λ t. t && same (drop (k + 1) xs) (drop (k + 1) ys)) (eq-eqb _ _ e)
+  same_more k h l e = grind (arith, same_turn)
 
   pub same_not : (k : ℕ) → k < length xs → k < length ys → (get_or xs k 0 ≡ get_or ys k 0 → ⊥) → same (drop k xs) (drop k ys) ≡ false
-  same_not k h l e = same_turn k h l ∙ ap (λ t. t && same (drop (k + 1) xs) (drop (k + 1) ys)) (ne_eqb _ _ e)
+  same_not k h l e = grind (arith, same_turn)
 
   pub same_end : (k : ℕ) → length xs ≤ k → length ys ≤ k → same (drop k xs) (drop k ys) ≡ true
   unfolding same

@@ -117,11 +117,11 @@ module _ (t : List ℕ) (k : ℕ) where
     all-turn h = ap (all_differ bs) (entry_more h)
 
     pub all_not : 2 * k + 1 < length t → none_like bs (get_or t (2 * k) 0) (get_or t (2 * k + 1) 0) (drop (2 * (k + 1)) t) ≡ false → all_differ bs (drop (2 * k) t) ≡ false
-    all_not h e = all-turn h ∙ ap (λ b. b && all_differ bs (drop (2 * (k + 1)) t)) e
+    all_not h e = grind (arith, all-turn)
 
     pub all_more : 2 * k + 1 < length t → none_like bs (get_or t (2 * k) 0) (get_or t (2 * k + 1) 0) (drop (2 * (k + 1)) t) ≡ true →
         all_differ bs (drop (2 * k) t) ≡ all_differ bs (drop (2 * (k + 1)) t)
-    all_more h e = all-turn h ∙ ap (λ b. b && all_differ bs (drop (2 * (k + 1)) t)) e
+    all_more h e = grind (arith, all-turn)
 
   module _ (bs : List ℕ) (h o : ℕ) where
     like_turn : 2 * k + 1 < length t →
