@@ -60,7 +60,7 @@ target_was bs t bytes e =
 -- each shape of a command, read from what is spelled so
 module _ (x : Name) (h : a_name x ≡ true) where
   name_reads : (c : Name → Command) → by_name c (with_length x) ≡ Some (asking (c x))
-  name_reads c = ap (λ o. found o (λ y. Some (asking (c y)))) (last_read x h)
+  name_reads c = grind (arith, last_read)
 
   names_reads : (c : Name → Name → Command) (y : Name) → a_name y ≡ true → by_names c (with_length x ++ with_length y) ≡ Some (asking (c x y))
   names_reads c y k = grind (arith, name_fields, last_read)

@@ -1,7 +1,6 @@
 -- The check of a renaming at each place is the model's test of bare forms: for a let at a place, and for a function's own name. Assumes nothing.
 use Rattle.std.proofs.Common.{◌≡◌, ℕ, zero, suc, ◌<◌, ◌≤◌, Bool, true, false, not, ◌&&◌, List, [], ◌∷◌, ◌++◌, length, sym, refl, ap, ◌∙◌, ap₂, subst₂, arith, length-append}
 use mathlib.Core.Path.{subst₃}
-use mathlib.Core.Bool.{and-true}
 use mathlib.Core.List.{nil≢cons}
 use Rattle.std.proofs.lemmas.Bool.{and_parts, not-true}
 use Rattle.language.specs.Basics.{or, same}
@@ -28,8 +27,7 @@ use Rattle.model.proofs.PlaceSays.{place_says}
 
 alike_says : (xs ys : List Name) (a b : Expr) → an_expr a ≡ true → an_expr b ≡ true → length xs ≤ 16 → length ys ≤ 16 →
     length (expr_spelled a) < 18446744073709551616 → length (expr_spelled b) < 18446744073709551616 → Says (alike xs a ys b) (bare xs a ≡ bare ys b)
-alike_says xs ys a b fit-a fit-b few-xs few-ys short-a short-b =
-    (alike-bare xs ys a b fit-a fit-b few-xs few-ys short-a short-b, bare_alike xs ys a b)
+alike_says xs ys a b fit-a fit-b few-xs few-ys short-a short-b = grind (arith, alike-bare, bare_alike)
 
 -- where neither name is given on the way
 clear-renamed : (e : Expr) (x y : Name) (outer zs : List Name) → has zs x ≡ false → has zs y ≡ false →
@@ -99,8 +97,7 @@ none_before (p ∷ left) right x d =
 -- another name in x's stead: different from all the others is what it has to be
 distinct_put : (left right : List Name) (x y : Name) → distinct (left ++ x ∷ right) ≡ true → distinct (left ++ y ∷ right) ≡ not (has (left ++ right) y)
 unfolding distinct
-distinct_put [] right x y d =
-    ap (λ t. not (has right y) && t) (and_parts _ _ d).1 ∙ and-true (not (has right y))
+distinct_put [] right x y d = grind arith
 distinct_put (p ∷ left) right x y d =
     ap₂ (λ s t. not s && t) only_y (distinct_put left right x y both.1) ∙ not_or (same y p) (has (left ++ right) y)
   where

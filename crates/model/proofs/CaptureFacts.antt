@@ -12,7 +12,7 @@ use Rattle.language.specs.Bare.{Bare, b_near, b_bin, b_call, b_bind, b_choice, b
 use Rattle.language.proofs.NameFacts.{same_refl, same_eq}
 use Rattle.language.proofs.NearFacts.{near_in, near_out, near_low, near_below}
 use Rattle.model.specs.Rename.{renamed, renamed_all}
-use Rattle.model.proofs.Says.{Says, says_true, says_false, says_map, two_says}
+use Rattle.model.proofs.Says.{Says, says_true, says_map, two_says}
 use Rattle.model.specs.Capture.{clear, clear_all, under, under_all}
 
 -- nothing is renamed where x is given anew
@@ -88,14 +88,7 @@ farther ys x n = not_that_near (how_near ys x (suc n)) x n (λ j js e m. let low
 module _ (x y : Name) (outer zs : List Name) where
   -- a use of what is renamed
   renamed_says : (z : Name) → same x z ≡ true → has zs x ≡ false → Says (not (has zs y)) (near (zs ++ x ∷ outer) z ≡ near (zs ++ y ∷ outer) y)
-  renamed_says z e h = go (has zs y) refl
-    where
-      own : near (zs ++ x ∷ outer) z ≡ b_near (length zs)
-      own = near-there zs outer x z (ap (has zs) (sym (same_eq x z e)) ∙ h) e
-
-      go : (t : Bool) → has zs y ≡ t → Says (not t) (near (zs ++ x ∷ outer) z ≡ near (zs ++ y ∷ outer) y)
-      go true k = says_false false refl (λ p. nearer zs (y ∷ outer) y k (sym p ∙ own))
-      go false k = says_true true refl (own ∙ sym (near-there zs outer y y k (same_refl y)))
+  renamed_says z e h = grind (arith, near-there, same_eq, nearer, same_refl)
 
   -- a use of something that is given on the way
   inside_says : (z : Name) → has zs z ≡ true → Says (not (same y z && not (has zs y))) (near (zs ++ x ∷ outer) z ≡ near (zs ++ y ∷ outer) z)

@@ -48,7 +48,7 @@ values_and r ds x xs v here rest =
   where
     go : (y : Name) (t : Bool) → same x y ≡ t → or (same y x) (has xs y) ≡ true → pick t (v ∷ []) (look (binds xs rest.values) y) ≡ look ds y
     go y true e h = sym here ∙ ap (look ds) (same_eq x y e)
-    go y false e h = rest.agree y (sym (ap (λ t. or t (has xs y)) (same_sym y x ∙ e)) ∙ h)
+    go y false e h = grind (arith, same_sym)
 
 values_of : (r : Program) (ds : List Bound) (xs : List Name) → Given xs ds → Values r ds xs
 unfolding eval_all vars
@@ -90,12 +90,12 @@ found_other (f ∷ fs) g h d = ap (pick (same f.name h) (f ∷ [])) (found_other
 
 found-added : (p : Program) (g : Fun) → there p g.name ≡ false → fun_of (p ++ g ∷ []) g.name ≡ g ∷ []
 unfolding fun_of
-found-added [] g d = pick_left (same g.name g.name) (g ∷ []) [] (same_refl g.name)
+found-added [] g d = grind (arith, same_refl)
 found-added (f ∷ fs) g d = grind (arith, found-added fs g)
 
 set-added : (p : Program) (x : Name) (g h : Fun) → same h.name x ≡ false → set_fun (p ++ h ∷ []) x g ≡ set_fun p x g ++ h ∷ []
 set-added [] x g h d = ap (λ k. k ∷ []) (pick_right (same h.name x) g h d)
-set-added (f ∷ fs) x g h d = ap (◌∷◌ (pick (same f.name x) g f)) (set-added fs x g h d)
+set-added (f ∷ fs) x g h d = grind (arith, set-added fs x g h d)
 
 -- nothing calls what is added, so it is no matter
 added_mean : (p : Program) (g : Fun) → taken p g.name ≡ false → MeanSame p (p ++ g ∷ [])
@@ -109,7 +109,7 @@ added_mean p g new =
     not_main = or_left_false _ _ new
 
     not_known : or (there p y) (any (calling y) p) ≡ false
-    not_known = or_right_false (same y main) (or (there p y) (any (calling y) p)) new
+    not_known = grind arith
 
     recalls : Recalls y y p (p ++ g ∷ [])
     recalls =
@@ -138,7 +138,7 @@ module _ (p : Program) (f : Fun) (fs : List Fun) (found : fun_of p f.name ≡ f 
   in_added = found-added p (made_fun y e) not_there
 
   in_after : fun_of (set_fun added f.name calling_it) y ≡ made_fun y e ∷ []
-  in_after = set_other added f.name y calling_it refl (same_sym f.name y ∙ other) ∙ in_added
+  in_after = grind (arith, set_other, same_sym, other, in_added)
 
   its_names : (ds : List Bound) → Given (given_at f.params f.body ks) ds → Given (free e) ds
   its_names ds given x h = given x (every-has (given_at f.params f.body ks) (free e) closed x h)

@@ -21,7 +21,7 @@ pub record Fields (read_field : List ℕ → Option Field) (spell : List ℕ →
   pub was : (bs : List ℕ) (f : Field) → all_bytes bs ≡ true → read_field bs ≡ Some f → (ok f.value ≡ true) × (bs ≡ spell f.value ++ f.rest) × (all_bytes f.rest ≡ true)
 
 pub front-stands : (p rest : List ℕ) → Stands (p ++ rest) 0 p
-front-stands p rest = ap (λ r. p ++ r) (sym (drop_at p rest (0 + length p) (omega arith)))
+front-stands p rest = grind (arith, drop_at)
 
 -- what stands at the beginning and ends at j, and what comes after it
 pub front_is : (bs p : List ℕ) (j : ℕ) → Stands bs 0 p → j ≡ 0 + length p → bs ≡ p ++ drop j bs

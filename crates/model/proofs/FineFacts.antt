@@ -152,7 +152,7 @@ made-fine w (show x) p h m = absurd m
 made-fine w names p h m = absurd m
 made-fine w (rename_bind x ks y) p h m = ap fine m.made ∙ put_fine w.now x ks _ h m.at
 made-fine w (rename_param x i y) p h m = ap fine m.made ∙ set-fine w.now _ h m.apart
-made-fine w (rename_fun x y) p h m = ap fine m.made ∙ renamed-fine w.now x y h (free-name w.now y m.new)
+made-fine w (rename_fun x y) p h m = grind (arith, renamed-fine)
 made-fine w (extract x ks y) p h m =
     let called = put_body w.now m.at.fun ks _ in
     ap fine m.made
@@ -162,7 +162,7 @@ made-fine w (extract x ks y) p h m =
 made-fine w (inline_bind x ks) p h m = ap fine m.made ∙ put_fine w.now x ks _ h m.at
 made-fine w (inline_call x ks) p h m = ap fine m.made ∙ put_fine w.now x ks _ h m.at
 made-fine w (turn_cond x ks) p h m = ap fine m.made ∙ put_fine w.now x ks _ h m.at
-made-fine w (drop_fun x) p h m = ap fine m.made ∙ those-fine (λ f. not (same f.name x)) w.now h
+made-fine w (drop_fun x) p h m = grind (arith, those-fine)
 made-fine w undo p h m = absurd m
 
 pub stays_fine : StaysFine

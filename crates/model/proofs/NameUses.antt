@@ -52,9 +52,9 @@ pub uses_node : (x : Name) (h : Bool) (i : ℕ) (e : Expr) →
 unfolding name_uses head_of parts
 uses_node x h i (num n) = refl
 uses_node x h i (var z) = sym (append-nil _)
-uses_node x h i (bin k a b) = ap (λ us. name_uses x h (parts_at i (h_bin k)) a ++ us) (sym (append-nil _))
+uses_node x h i (bin k a b) = grind (arith, append-nil)
 uses_node x h i (call f es) = grind (arith, values_uses)
-uses_node x h i (bind z a b) = ap (λ us. name_uses x h (parts_at i (h_bind z)) a ++ us) (sym (append-nil _))
+uses_node x h i (bind z a b) = grind (arith, append-nil)
 uses_node x h i (choice c a b) = grind (arith, append-nil)
 uses_node x h i (tell a) = sym (append-nil _)
 

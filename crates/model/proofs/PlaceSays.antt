@@ -5,7 +5,7 @@ use mathlib.Core.List.{nil≢cons}
 use Rattle.language.specs.Bytes.{Name}
 use Rattle.language.specs.Expr.{Expr, num, var, bin, call, bind, choice, tell, Exprs, no_exprs, expr_and, exprs_in, parts}
 use Rattle.language.specs.Places.{nth_expr, at_place, put_nth, with_part, put_at}
-use Rattle.language.specs.Bare.{Bare, b_bin, b_call, b_bind, b_choice, b_tell, bare_and, bare, bare_all}
+use Rattle.language.specs.Bare.{Bare, b_call, bare_and, bare, bare_all}
 use Rattle.language.proofs.PlaceFacts.{within}
 use Rattle.model.specs.Extract.{given_in, given_to, given_at}
 use Rattle.model.proofs.Says.{Says, says_map}
@@ -18,8 +18,7 @@ nth_says : (t : Bool) (xs : List Name) (es : Exprs) (k : ℕ) (c : Expr) (cs : L
     Says t (bare xs c ≡ bare xs d) → Says t (bare_all xs es ≡ bare_all xs (put_nth es k d))
 unfolding nth_expr put_nth bare_all
 nth_says t xs no_exprs k c cs d h s = absurd (nil≢cons h)
-nth_says t xs (expr_and a es) zero c cs d h s =
-    says_map t (ap (λ b. bare_and b (bare_all xs es))) (λ e. cc) (says_for t xs a c (cc) s)
+nth_says t xs (expr_and a es) zero c cs d h s = grind arith
 nth_says t xs (expr_and a es) (suc k) c cs d h s = says_map t (ap (bare_and (bare xs a))) (λ e. cc) (nth_says t xs es k c cs d h s)
 
 -- What is said of a part, under the names given there, is said of the whole with another part.
@@ -28,18 +27,18 @@ part_says : (t : Bool) (xs : List Name) (e : Expr) (k : ℕ) (c : Expr) (cs : Li
 unfolding nth_expr parts with_part bare
 part_says t xs (num n) k c cs d h s = absurd (nil≢cons h)
 part_says t xs (var x) k c cs d h s = absurd (nil≢cons h)
-part_says t xs (bin o a b) zero c cs d h s = says_map t (ap (λ z. b_bin o z (bare xs b))) (λ e. cc) (says_for t xs a c (cc) s)
-part_says t xs (bin o a b) (suc zero) c cs d h s = says_map t (ap (b_bin o (bare xs a))) (λ e. cc) (says_for t xs b c (cc) s)
+part_says t xs (bin o a b) zero c cs d h s = grind arith
+part_says t xs (bin o a b) (suc zero) c cs d h s = grind arith
 part_says t xs (bin o a b) (suc (suc k)) c cs d h s = absurd (nil≢cons h)
 part_says t xs (call f es) k c cs d h s = says_map t (ap (b_call f)) (λ e. cc) (nth_says t xs es k c cs d h s)
-part_says t xs (bind x a b) zero c cs d h s = says_map t (ap (λ z. b_bind z (bare (x ∷ xs) b))) (λ e. cc) (says_for t xs a c (cc) s)
-part_says t xs (bind x a b) (suc zero) c cs d h s = says_map t (ap (b_bind (bare xs a))) (λ e. cc) (says_for t (x ∷ xs) b c (cc) s)
+part_says t xs (bind x a b) zero c cs d h s = grind arith
+part_says t xs (bind x a b) (suc zero) c cs d h s = grind arith
 part_says t xs (bind x a b) (suc (suc k)) c cs d h s = absurd (nil≢cons h)
 part_says t xs (choice e a b) zero c cs d h s = grind arith
 part_says t xs (choice e a b) (suc zero) c cs d h s = grind arith
-part_says t xs (choice e a b) (suc (suc zero)) c cs d h s = says_map t (ap (b_choice (bare xs e) (bare xs a))) (λ e. cc) (says_for t xs b c (cc) s)
+part_says t xs (choice e a b) (suc (suc zero)) c cs d h s = grind arith
 part_says t xs (choice e a b) (suc (suc (suc k))) c cs d h s = absurd (nil≢cons h)
-part_says t xs (tell a) zero c cs d h s = says_map t (ap b_tell) (λ e. cc) (says_for t xs a c (cc) s)
+part_says t xs (tell a) zero c cs d h s = grind (arith, says_map, says_for)
 part_says t xs (tell a) (suc k) c cs d h s = absurd (nil≢cons h)
 
 pub place_says : (t : Bool) (ks : List ℕ) (xs : List Name) (e old : Expr) (os : List Expr) (new : Expr) → at_place e ks ≡ old ∷ os →

@@ -1,6 +1,5 @@
 -- Tests that say whether something holds: both directions at once, joined as the tests are. Assumes nothing.
-use Rattle.std.proofs.Common.{◌≡◌, Bool, true, false, ◌&&◌, sym, refl, ◌∙◌, ap₂}
-use borrow.Author.Tests.{clash}
+use Rattle.std.proofs.Common.{◌≡◌, Bool, true, false, ◌&&◌, sym, refl, ap₂}
 use Rattle.std.proofs.lemmas.Bool.{and_parts, and_from}
 
 -- the test is true just if P holds
@@ -9,9 +8,6 @@ Says t P = (t ≡ true → P) × (P → t ≡ true)
 
 pub says_true : {P : Type 0} (t : Bool) → t ≡ true → P → Says t P
 says_true t h p = (λ e. p, λ q. h)
-
-pub says_false : {P : Type 0} (t : Bool) → t ≡ false → (P → ⊥) → Says t P
-says_false t h no-p = (λ e. absurd (clash (sym h ∙ e)), λ p. absurd (no-p p))
 
 pub says_map : {P Q : Type 0} (t : Bool) → (P → Q) → (Q → P) → Says t P → Says t Q
 says_map t to from s = (λ e. to (s.0 e), λ q. s.1 (from q))

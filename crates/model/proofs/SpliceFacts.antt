@@ -1,6 +1,6 @@
 -- The bytes with the new name at each use that changes are those of the renamed expression. By induction over the expression: if what comes of the
 -- bytes after it is known, so is what comes of those from its start. Assumes nothing.
-use Rattle.std.proofs.Common.{◌≡◌, ℕ, suc, ◌+◌, Bool, true, false, not, ◌&&◌, List, [], ◌∷◌, ◌++◌, length, drop, sym, refl, ap, ◌∙◌, subst, ap₂, arith}
+use Rattle.std.proofs.Common.{◌≡◌, ℕ, suc, ◌+◌, Bool, true, false, not, ◌&&◌, List, [], ◌∷◌, ◌++◌, length, drop, sym, refl, ap, ◌∙◌, subst, arith}
 use Rattle.std.specs.List.{AllByRecursion}
 use Rattle.std.proofs.lemmas.List.{append_assoc, append-nil, length-append, drop_at}
 use Rattle.std.proofs.lemmas.Bool.{and_parts}
@@ -39,7 +39,7 @@ values_under : (x y : Name) (h : Bool) (g : ℕ → Bool) → ((p : ℕ) → g p
     exprs_in (under_all x y h es) ≡ parts_under x y g p (exprs_in es)
 unfolding under
 values_under x y h g as-h p no_exprs = refl
-values_under x y h g as-h p (expr_and e es) = ap₂ (λ b r. under x y b e ∷ r) (sym (as-h p)) (values_under x y h g as-h (p + 1) es)
+values_under x y h g as-h p (expr_and e es) = grind (arith, values_under x y h g as-h (p + 1) es)
 
 count_under : (x y : Name) (h : Bool) (es : Exprs) → count_exprs (under_all x y h es) ≡ count_exprs es
 unfolding under count_exprs

@@ -1,15 +1,15 @@
 -- What is made of a program that fits is a program that fits: every function of it does, and a turn tests how large it is. So do the programs that
 -- can be gone back to, of which there are at most eight. Assumes nothing.
-use Rattle.std.proofs.Common.{◌≡◌, ℕ, ◌≤◌, Bool, true, not, leb, List, [], ◌∷◌, length, sym, refl, ap, ◌∙◌, arith, length-take}
+use Rattle.std.proofs.Common.{◌≡◌, ℕ, ◌≤◌, Bool, true, leb, List, [], ◌∷◌, length, sym, refl, ap, ◌∙◌, arith, length-take}
 use Rattle.std.proofs.lemmas.Bool.{and_parts, and_from}
-use Rattle.language.specs.Basics.{every, same}
+use Rattle.language.specs.Basics.{every}
 use Rattle.language.specs.Bytes.{in_bytes, Name}
 use Rattle.language.specs.Expr.{Expr, num, bin, call, bind, choice, Fun, Program, parts}
 use Rattle.language.specs.Places.{put_at}
 use Rattle.language.specs.Names.{free, distinct}
 use Rattle.language.specs.Spelling.{program_spelled}
 use Rattle.language.specs.Fits.{a_name, an_expr, a_fun, a_program}
-use Rattle.language.proofs.ListFacts.{every_take, every_append, every-those, every_so, every-each}
+use Rattle.language.proofs.ListFacts.{every_append, every-those, every_so, every-each}
 use Rattle.language.proofs.FitFacts.{bind_fit, choice_fit, fit_bin, fit_bind, fit_choice}
 use Rattle.language.proofs.NodeFacts.{head-fits}
 use Rattle.language.proofs.PlaceFits.{at_fit, put_fit}
@@ -121,7 +121,7 @@ module _ (w : Plain) (funs : every a_fun w.now ≡ true) where
   made_funs (inline_bind x ks) p fit m = inline_funs x ks p m
   made_funs (inline_call x ks) p fit m = call_funs x ks p m
   made_funs (turn_cond x ks) p fit m = cond_funs x ks p m
-  made_funs (drop_fun x) p fit m = ap (every a_fun) m.made ∙ every-those a_fun (λ f. not (same f.name x)) w.now funs
+  made_funs (drop_fun x) p fit m = grind (arith, every-those)
   made_funs undo p fit m = absurd m
 
 pub stays_program : StaysProgram
@@ -131,7 +131,7 @@ stays_program w c fit fit-now fit-before = go (turn-ends w c)
     go (refuses k h) = fit-now
     go (looks ss h) = fit-now
     go (loads p is h) = unfold fits in (sym (ap fits is) ∙ fit)
-    go (goes_back p ps is was) = (and_parts _ _ (ap (every a_program) (sym was) ∙ fit-before)).0
+    go (goes_back p ps is was) = grind arith
     go (makes p m few short) = fit_program p few (made_funs w (program_fits w.now fit-now).1 c p fit m) short
 
 -- What holds of what stands and of what can be gone back to, holds after a turn of what can be gone back to.
@@ -143,7 +143,7 @@ before_stays P w c now-holds before-hold = go (turn-ends w c)
     go (looks ss h) = before-hold
     go (loads p is h) = refl
     go (goes_back p ps is was) = (and_parts _ _ (ap (every P) (sym was) ∙ before-hold)).1
-    go (makes p m few short) = every_take P 8 (w.now ∷ w.before) (and_from _ _ now-holds before-hold)
+    go (makes p m few short) = grind arith
 
 pub before-few : (w : Plain) (c : Command) → length w.before ≤ 8 → length (turn w c).next.before ≤ 8
 before-few w c eight = go (turn-ends w c)

@@ -52,7 +52,7 @@ clear_node x y hx hy (var z) = sym (and-true _)
 clear_node x y hx hy (bin k a b) = ap (λ t. clear x y hx hy a && t) (sym (and-true _))
 clear_node x y hx hy (call f es) = grind (arith, values_clear)
 clear_node x y hx hy (bind z a b) = ap (λ t. clear x y hx hy a && t) (sym (and-true _))
-clear_node x y hx hy (choice c a b) = ap (λ t. clear x y hx hy c && (clear x y hx hy a && t)) (sym (and-true _))
+clear_node x y hx hy (choice c a b) = grind arith
 clear_node x y hx hy (tell a) = sym (and-true _)
 
 pick_and : {A : Type 0} (s t : Bool) (a b : A) → pick s (pick t a b) b ≡ pick (s && t) a b
@@ -176,7 +176,7 @@ module _ (bs : List ℕ) (x y : Name) (i₀ : ℕ) (t : Token) (read : head_at b
       both = and_parts _ _ fit
 
       first : Stands bs j (expr_spelled e)
-      first = stands-first bs j (expr_spelled e) (flat expr_spelled es) s
+      first = grind (arith, stands-first)
 
       long : length (flat expr_spelled (e ∷ es)) ≡ length (expr_spelled e) + length (flat expr_spelled es)
       long = length-append (expr_spelled e) (flat expr_spelled es)
@@ -206,7 +206,7 @@ module _ (bs : List ℕ) (x y : Name) (short : length bs ≤ 65536) where
       vs = us ++ head_uses x hx i (head_of e)
 
       here : i + length (expr_spelled e) ≤ length bs
-      here = stands_in bs i (expr_spelled e) (omega (arith, spelled_nine e)) s
+      here = grind (arith, stands_in, spelled_nine)
 
       all : Stands bs i (head_spelled (head_of e) ++ flat expr_spelled (parts e))
       all = subst (Stands bs i) (spelled_node e) s
