@@ -1,6 +1,6 @@
 -- A run of an expression is a run of its bare form: so what is alike without its names comes to the same, in programs that are alike too.
 -- Bare forms are evaluated here with a row of values in place of names; each step of that is a step of the meaning. Assumes nothing.
-use Rattle.std.proofs.Common.{◌≡◌, ℕ, zero, suc, Bool, true, false, eqb, List, [], ◌∷◌, length, sym, refl, ap, ◌∙◌, ap₂}
+use Rattle.std.proofs.Common.{arith, ◌≡◌, ℕ, zero, suc, eqb, List, [], ◌∷◌, length, sym, refl, ap, ◌∙◌, ap₂}
 use mathlib.Core.Path.{fun_ext}
 use Rattle.language.specs.Basics.{pick, each, same}
 use Rattle.language.specs.Bytes.{Name}
@@ -65,37 +65,18 @@ binds_values (x ∷ xs) (v ∷ vs) = ap (◌∷◌ (record { name = x; value = v
 near_later : (xs : List Name) (x : Name) (k : ℕ) → how_near xs x (suc k) ≡ each suc (how_near xs x k)
 unfolding how_near
 near_later [] x k = refl
-near_later (y ∷ ys) x k = go (same y x) (near_later ys x (suc k))
-  where
-    go : (t : Bool) → how_near ys x (suc (suc k)) ≡ each suc (how_near ys x (suc k)) →
-        pick t (suc k ∷ []) (how_near ys x (suc (suc k))) ≡ each suc (pick t (k ∷ []) (how_near ys x (suc k)))
-    go true h = refl
-    go false h = h
+near_later (y ∷ ys) x k = grind (arith, near_later ys x (suc k))
 
 -- the value that is so near
 at-near : List ℕ → List ℕ → List ℕ
 at-near vs [] = []
 at-near vs (k ∷ ks) = nth_value vs k
 
-at_near_later : (v : ℕ) (vs ks : List ℕ) → at-near (v ∷ vs) (each suc ks) ≡ at-near vs ks
-unfolding at-near nth_value
-at_near_later v vs [] = refl
-at_near_later v vs (k ∷ ks) = refl
-
 look-near : (xs : List Name) (vs : List ℕ) (x : Name) → look (values_in xs vs) x ≡ at-near vs (how_near xs x 0)
 unfolding look values_in how_near at-near nth_value
 look-near [] vs x = refl
-look-near (y ∷ ys) [] x = none (how_near (y ∷ ys) x 0)
-  where
-    none : (ks : List ℕ) → [] ≡ at-near [] ks
-    none [] = refl
-    none (k ∷ ks) = refl
-look-near (y ∷ ys) (v ∷ vs) x = go (same y x) (look-near ys vs x)
-  where
-    go : (t : Bool) → look (values_in ys vs) x ≡ at-near vs (how_near ys x 0) →
-        pick t (v ∷ []) (look (values_in ys vs) x) ≡ at-near (v ∷ vs) (pick t (0 ∷ []) (how_near ys x 1))
-    go true h = refl
-    go false h = h ∙ sym (at_near_later v vs (how_near ys x 0)) ∙ ap (at-near (v ∷ vs)) (sym (near_later ys x 0))
+look-near (y ∷ ys) [] x = grind arith
+look-near (y ∷ ys) (v ∷ vs) x = grind (arith, near_later, look-near ys vs x)
 
 looked-near : (fs : List BareFun) (ev : BareEv) (vs ks : List ℕ) (x : Name) → looked (at-near vs ks) ≡ bare_step fs ev vs (near_or_far ks x)
 unfolding at-near bare_step near_or_far
@@ -105,12 +86,7 @@ looked-near fs ev vs (k ∷ ks) x = refl
 fun-bare : (p : Program) (x : Name) → bare-fun_of (each bare_fun p) x ≡ each bare_fun (fun_of p x)
 unfolding fun_of bare-fun_of
 fun-bare [] x = refl
-fun-bare (f ∷ fs) x = go (same f.name x) (fun-bare fs x)
-  where
-    go : (t : Bool) → bare-fun_of (each bare_fun fs) x ≡ each bare_fun (fun_of fs x) →
-        pick t (bare_fun f ∷ []) (bare-fun_of (each bare_fun fs) x) ≡ each bare_fun (pick t (f ∷ []) (fun_of fs x))
-    go true h = refl
-    go false h = h
+fun-bare (f ∷ fs) x = grind (arith, fun-bare fs x)
 
 -- an evaluation and one of bare forms come to the same
 SameEv : Ev → BareEv → Type 0
@@ -120,17 +96,14 @@ all-bare : (ev : Ev) (bev : BareEv) → SameEv ev bev → (xs : List Name) (vs :
     eval_all (ev (values_in xs vs)) es ≡ bare-eval_all (bev vs) (bare_all xs es)
 unfolding SameEv eval_all bare-eval_all bare_all
 all-bare ev bev same-ev xs vs no_exprs = refl
-all-bare ev bev same-ev xs vs (expr_and e es) =
-    ap₂ and_cames (same-ev xs vs e) (fun_ext λ v. fun_ext λ ts. ap (more_cames v ts) (all-bare ev bev same-ev xs vs es))
+all-bare ev bev same-ev xs vs (expr_and e es) = grind (arith, all-bare ev bev same-ev xs vs es)
 
 called-bare : (ev : Ev) (bev : BareEv) → SameEv ev bev → (fs : List Fun) (cs : Cames) → called ev fs cs ≡ bare-called bev (each bare_fun fs) cs
 unfolding SameEv called bare-called
 called-bare ev bev same-ev [] (cames vs ts) = refl
 called-bare ev bev same-ev [] (wrongs k ts) = refl
 called-bare ev bev same-ev [] deeps = refl
-called-bare ev bev same-ev (f ∷ fs) (cames vs ts) =
-    ap (λ c. pick (eqb (length vs) (length f.params)) (after_telling ts c) (wrong 3 ts))
-    (ap (λ bs. ev bs f.body) (binds_values f.params vs) ∙ same-ev f.params vs f.body)
+called-bare ev bev same-ev (f ∷ fs) (cames vs ts) = grind (arith, binds_values)
 called-bare ev bev same-ev (f ∷ fs) (wrongs k ts) = refl
 called-bare ev bev same-ev (f ∷ fs) deeps = refl
 
@@ -152,13 +125,12 @@ pub eval-bare : (n : ℕ) (p : Program) (xs : List Name) (vs : List ℕ) (e : Ex
     eval n p (values_in xs vs) e ≡ bare-eval n (each bare_fun p) vs (bare xs e)
 unfolding eval bare-eval SameEv
 eval-bare zero p xs vs e = refl
-eval-bare (suc n) p xs vs e = step-bare p (eval n p) (bare-eval n (each bare_fun p)) (eval-bare n p) xs vs e
+eval-bare (suc n) p xs vs e = grind (arith, step-bare, eval-bare n p)
 
 -- in two programs whose functions differ only in their own names
 pub alike_in_both : (n : ℕ) (p q : Program) → each bare_fun p ≡ each bare_fun q → (xs ys : List Name) (vs : List ℕ) (a b : Expr) →
     bare xs a ≡ bare ys b → eval n p (values_in xs vs) a ≡ eval n q (values_in ys vs) b
-alike_in_both n p q h xs ys vs a b k =
-    eval-bare n p xs vs a ∙ ap₂ (λ fs c. bare-eval n fs vs c) h k ∙ sym (eval-bare n q ys vs b)
+alike_in_both n p q h xs ys vs a b k = grind (arith, eval-bare)
 
 pub alike_same : AlikeSame
 alike_same p xs ys vs a b n h k e = alike_in_both n p p refl xs ys vs a b e
@@ -168,6 +140,4 @@ unfolding SameEv
 apply-bare n p q h f vs = run p ∙ ap (λ fs. bare-called (bare-eval n fs) (bare-fun_of fs f) (cames vs [])) h ∙ sym (run q)
   where
     run : (r : Program) → apply n r f vs ≡ bare-called (bare-eval n (each bare_fun r)) (bare-fun_of (each bare_fun r) f) (cames vs [])
-    run r =
-        called-bare (eval n r) (bare-eval n (each bare_fun r)) (eval-bare n r) (fun_of r f) (cames vs [])
-        ∙ ap (λ fs. bare-called (bare-eval n (each bare_fun r)) fs (cames vs [])) (sym (fun-bare r f))
+    run r = grind (arith, called-bare, eval-bare, fun-bare)

@@ -1,15 +1,16 @@
 -- A bare spelling can be read again, so expressions that fit and are alike have the same bare form.
 -- The numbers in a bare form have eight bytes, so all of them have to be below 2^64: in a bare form of what fits they are. Assumes nothing.
-use Rattle.std.proofs.Common.{◌≡◌, ℕ, zero, suc, ◌+◌, ◌*◌, ◌<◌, ◌≤◌, true, eqb, List, [], ◌∷◌, ◌++◌, length, sym, refl, ap, ◌∙◌, arith, length-append, ltb-true}
-use Rattle.language.specs.Basics.{pick, same}
+use Rattle.std.proofs.Common.{◌≡◌, ℕ, zero, suc, ◌+◌, ◌*◌, ◌<◌, ◌≤◌, true, eqb, List, [], ◌∷◌, ◌++◌, length, refl, ap, arith, length-append, ltb-true}
+use Rattle.language.specs.Basics.{pick}
 use Rattle.language.specs.Bytes.{eight, with_length, Name}
-use Rattle.language.specs.Expr.{limit, Expr, num, var, bin, call, bind, choice, tell, Exprs, no_exprs, expr_and}
+use Rattle.language.specs.Expr.{Expr, num, var, bin, call, bind, choice, tell, Exprs, no_exprs, expr_and}
 use Rattle.language.specs.Bare.{Bare, b_num, b_near, b_far, b_bin, b_call, b_bind, b_choice, b_tell, Bares, no_bares, bare_and, how_near, near_or_far, bare, bare_all, bare_spelled, bares_spelled, alike}
 use Rattle.language.specs.Spelling.{expr_spelled, exprs_spelled}
 use Rattle.language.specs.Fits.{a_name, an_expr, all_exprs}
 use Rattle.language.proofs.NameFacts.{same_refl, same_eq}
 use Rattle.language.proofs.NearFacts.{near_below}
-use Rattle.language.proofs.FitFacts.{bin_fit, bind_fit, choice_fit, call_fit, exprs_fit, name_short, var-long, bin-long, call_long, bind-long, choice-long, tell-long, exprs_long}
+use Rattle.language.proofs.HeadFacts.{name_short}
+use Rattle.language.proofs.FitFacts.{bin_fit, bind_fit, choice_fit, call_fit, exprs_fit, var-long, bin-long, call_long, bind-long, choice-long, tell-long, exprs_long}
 use Rattle.language.proofs.Readers.{got, Reader, Spells, spells_once, one_read, both_read, by_tag, one_spells, both_spells, read_eight, eight_spells, read_name, name_spells}
 
 abbrev Below-2^64 : ℕ → Type 0
@@ -136,7 +137,7 @@ mutual
   unfolding Readable AllReadable bare bare_all an_expr
 
   fit_readable : (e : Expr) (xs : List Name) → an_expr e ≡ true → 2 * length xs + length (expr_spelled e) < 18446744073709551648 → Readable (bare xs e)
-  fit_readable (num n) xs fit h = omega (arith, ltb-true n limit fit)
+  fit_readable (num n) xs fit h = omega (arith, ltb-true _ _ fit)
   fit_readable (var x) xs fit h = var_readable xs x fit (omega (arith, var-long x))
   fit_readable (bin k a b) xs fit h =
       let parts_fit = bin_fit k a b fit in
@@ -164,9 +165,7 @@ mutual
 
 pub alike-bare : (xs ys : List Name) (a b : Expr) → an_expr a ≡ true → an_expr b ≡ true → length xs ≤ 16 → length ys ≤ 16 →
     length (expr_spelled a) < 18446744073709551616 → length (expr_spelled b) < 18446744073709551616 → alike xs a ys b ≡ true → bare xs a ≡ bare ys b
-alike-bare xs ys a b fit-a fit-b few-xs few-ys short-a short-b h =
-    bare_once (bare xs a) (bare ys b) (fit_readable a xs fit-a (omega arith)) (fit_readable b ys fit-b (omega arith))
-    (same_eq (bare_spelled (bare xs a)) (bare_spelled (bare ys b)) h)
+alike-bare xs ys a b fit-a fit-b few-xs few-ys short-a short-b h = grind (arith, bare_once, fit_readable, same_eq)
 
 pub bare_alike : (xs ys : List Name) (a b : Expr) → bare xs a ≡ bare ys b → alike xs a ys b ≡ true
-bare_alike xs ys a b h = ap (λ c. same (bare_spelled (bare xs a)) (bare_spelled c)) (sym h) ∙ same_refl (bare_spelled (bare xs a))
+bare_alike xs ys a b h = grind (arith, same_refl)

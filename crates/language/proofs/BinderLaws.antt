@@ -1,6 +1,6 @@
 -- What gives a name is read where it stands: a let by its head and the end of its first part, a function's own name by the names before it. With
 -- another name and another body in the function, the bytes around them stay. Assumes nothing.
-use Rattle.std.proofs.Common.{◌≡◌, ℕ, suc, ◌+◌, ◌≤◌, true, ◌&&◌, ltb, List, [], ◌∷◌, ◌++◌, length, Some, None, sym, refl, ap, ◌∙◌, subst, ap₂, arith, le-ltb, lt-ltb, eq-eqb}
+use Rattle.std.proofs.Common.{◌≡◌, ℕ, suc, ◌+◌, ◌≤◌, true, ltb, List, [], ◌∷◌, ◌++◌, length, Some, None, sym, refl, ap, ◌∙◌, subst, ap₂, arith, lt-ltb, eq-eqb}
 use Rattle.std.specs.List.{between}
 use Rattle.std.proofs.lemmas.List.{append_assoc, length-append}
 use Rattle.std.proofs.lemmas.Bool.{and_parts, and_from}
@@ -11,8 +11,8 @@ use Rattle.language.specs.Names.{distinct}
 use Rattle.language.specs.Spelling.{expr_spelled, fun_spelled, program_spelled}
 use Rattle.language.specs.Fits.{a_name, an_expr, a_fun, a_program}
 use Rattle.language.specs.Heads.{head_of, head_spelled}
-use Rattle.language.specs.Reading.{found, Token, number_at, name_end, times}
-use Rattle.language.specs.Contents.{listed, own_names, body_of}
+use Rattle.language.specs.Reading.{found, name_end, times}
+use Rattle.language.specs.Contents.{own_names, body_of}
 use Rattle.language.specs.Binders.{binder, let_of, let_at, own_at, own_binder}
 use Rattle.language.proofs.ListFacts.{every-parts, flat_append}
 use Rattle.language.proofs.FitFacts.{bind_fit}
@@ -20,16 +20,16 @@ use Rattle.language.proofs.ByteFacts.{bytes_program}
 use Rattle.language.proofs.StandsFacts.{Stands, stands-first, stands-second, length-eight, number_stands}
 use Rattle.language.proofs.HeadFacts.{length_with, name-stands}
 use Rattle.language.proofs.NodeFacts.{spelled_node}
-use Rattle.language.proofs.ProgramFacts.{name_reads, expr_reads, params_spelled, some_params, times_reads}
+use Rattle.language.proofs.ProgramFacts.{name_reads, expr_reads, params_spelled, times_reads}
 use Rattle.language.proofs.ProgramFits.{fun-fits}
 use Rattle.language.proofs.PlaceLaws.{head_read}
 use Rattle.language.proofs.ContentsLaws.{name_is, own_are, FoundIn}
-use Rattle.language.proofs.ChangeLaws.{fun_front, fun_split, body_from, body_at, changed-spelled, changed-fun}
+use Rattle.language.proofs.ChangeLaws.{fun_split, body_from, body_at, changed-spelled, changed-fun}
 
 -- a let
 module _ (bs : List ℕ) (bytes : all_bytes bs ≡ true) (i : ℕ) where
   pub let-head : (c : Expr) → an_expr c ≡ true → Stands bs i (expr_spelled c) → let_at bs i ≡ let_of bs i (i + length (head_spelled (head_of c))) (head_of c)
-  let-head c fit s = ap (λ o. found o (λ (t : Token). let_of bs i t.end t.head)) (head_read bs i c fit s)
+  let-head c fit s = grind (arith, head_read)
 
   pub let_some : (z : Name) (a b : Expr) → an_expr (bind z a b) ≡ true → Stands bs i (expr_spelled (bind z a b)) →
       let_at bs i ≡ Some (binder z (i + 1) (i + 1 + (length (with_length z) + length (expr_spelled a))))
@@ -66,10 +66,10 @@ module _ (bs : List ℕ) (bytes : all_bytes bs ≡ true) (o : ℕ) (f : Fun) (fi
   names_at = o + 8 + length f.name + 8
 
   front-stands : Stands bs o (with_length f.name ++ (params_spelled f.params ++ expr_spelled f.body))
-  front-stands = subst (Stands bs o) (fun_split f ∙ append_assoc (with_length f.name) (params_spelled f.params) (expr_spelled f.body)) s
+  front-stands = grind (arith, append_assoc)
 
   name-first : Stands bs o (with_length f.name)
-  name-first = stands-first bs o (with_length f.name) (params_spelled f.params ++ expr_spelled f.body) front-stands
+  name-first = grind (arith, stands-first)
 
   names_stand : Stands bs (o + 8 + length f.name) (params_spelled f.params)
   names_stand =
@@ -79,23 +79,15 @@ module _ (bs : List ℕ) (bytes : all_bytes bs ≡ true) (o : ℕ) (f : Fun) (fi
 
   -- all of them
   pub own_is : own_names bs o ≡ f.params
-  own_is =
-      let r = and_parts (a_name f.name) (some_params f.params) (and_parts (a_name f.name && some_params f.params) (an_expr f.body) fit).0 in
-      own_are bs o f.name f.params r.0 r.1 (stands-first bs o (fun_front f) (expr_spelled f.body) (subst (Stands bs o) (fun_split f) s))
+  own_is = grind (arith, own_are, stands-first, fun_split)
 
   own_at_is : (i : ℕ) → own_at bs o i ≡ pick (ltb i (length f.params)) (times i (name_end bs) names_at) None
   unfolding names_at
-  own_at_is i =
-      ap (λ q. found q (λ j. found (number_at bs j) (λ n. pick (ltb i n) (times i (name_end bs) (j + 8)) None))) (name-stands bs o f.name (fun-fits f fit).0 name-first)
-      ∙ ap (λ q. found q (λ n. pick (ltb i n) (times i (name_end bs) (o + 8 + length f.name + 8)) None))
-      (number_stands bs (o + 8 + length f.name) (length f.params) (omega (arith, (fun-fits f fit).1))
-      (stands-first bs (o + 8 + length f.name) (eight (length f.params)) (flat with_length f.params) names_stand))
+  own_at_is i = grind (arith, name-stands, fun-fits, name-first, number_stands, stands-first, names_stand)
 
   -- there is none
   pub own_none : (i : ℕ) → length f.params ≤ i → own_binder bs o i ≡ None
-  own_none i h =
-      ap (λ q. found q (λ k. found (name_end bs k) (λ j. found (body_of bs o) (λ b. Some (binder (between (k + 8) j bs) k b)))))
-      (own_at_is i ∙ ap (λ t. pick t (times i (name_end bs) names_at) None) (le-ltb i (length f.params) h))
+  own_none i h = grind (arith, own_at_is)
 
   module _ (left : List Name) (z : Name) (right : List Name) (split : f.params ≡ left ++ z ∷ right) where
     names_fit : every a_name (left ++ z ∷ right) ≡ true
@@ -121,7 +113,7 @@ module _ (bs : List ℕ) (bytes : all_bytes bs ≡ true) (o : ℕ) (f : Fun) (fi
         (stands-first bs names_at (flat with_length left) (with_length z ++ flat with_length right) all_stand)
 
     own-fits : a_name z ≡ true
-    own-fits = (and_parts (a_name z) (every a_name right) (every-parts a_name left (z ∷ right) names_fit).1).0
+    own-fits = (and_parts _ _ (every-parts a_name left (z ∷ right) names_fit).1).0
 
     own-stands : Stands bs own_here (with_length z)
     unfolding own_here
@@ -133,7 +125,7 @@ module _ (bs : List ℕ) (bytes : all_bytes bs ≡ true) (o : ℕ) (f : Fun) (fi
     own-ends = name-stands bs own_here z own-fits own-stands
 
     named_here : between (own_here + 8) (own_here + 8 + length z) bs ≡ z
-    named_here = ap (λ q. listed q (λ j. between (own_here + 8) j bs)) (sym own-ends) ∙ name_is bs own_here z own-fits own-stands
+    named_here = grind (arith, own-ends, name_is, own-fits, own-stands)
 
     own_some : own_binder bs o (length left) ≡ Some (binder z (o + length (own-front f left right)) (body_from o f))
     unfolding own_here names_at own-front
@@ -178,30 +170,11 @@ module _ (p : Program) (fit : a_program p ≡ true) (x : Name) (f : Fun) (r : Fo
 
   before-long : r.place.at + length (own-front f left right) ≡ length all-before
   unfolding all-before
-  before-long =
-      omega (
-        arith,
-        r.place.at_is,
-        length-eight (length p),
-        length-append (eight (length p)) (flat fun_spelled r.place.before ++ own-front f left right),
-        length-append (flat fun_spelled r.place.before) (own-front f left right),
-      )
+  before-long = grind (arith, length-eight, length-append)
 
   body_begins : body_from r.place.at f ≡ length all-before + (length (with_length z) + length (flat with_length right))
   unfolding own-front
-  body_begins =
-      omega (
-        arith,
-        before-long,
-        length-append (with_length f.name) (eight (length left + suc (length right)) ++ flat with_length left),
-        length-append (eight (length left + suc (length right))) (flat with_length left),
-        length-eight (length left + suc (length right)),
-        length-append (eight (length f.params)) (flat with_length f.params),
-        length-eight (length f.params),
-        ap length (ap (flat with_length) split ∙ flat_append with_length left (z ∷ right)),
-        length-append (flat with_length left) (with_length z ++ flat with_length right),
-        length-append (with_length z) (flat with_length right),
-      )
+  body_begins = grind (arith, before-long, length-append, flat_append)
 
   pub own_program : distinct (each (λ h. h.name) p) ≡ true → OwnIn p r.place.at f left z right
   own_program apart =

@@ -1,5 +1,5 @@
 -- What fits is spelled in bytes. Assumes nothing.
-use Rattle.std.proofs.Common.{◌≡◌, ℕ, zero, suc, ◌/◌, ◌%◌, ◌<◌, Bool, true, ◌&&◌, ltb, leb, List, [], ◌∷◌, ◌++◌, length, refl, arith, ltb-true, lt-ltb, leb-true}
+use Rattle.std.proofs.Common.{◌≡◌, ℕ, zero, suc, ◌/◌, ◌%◌, ◌<◌, Bool, true, ltb, List, [], ◌∷◌, ◌++◌, refl, arith, ltb-true, lt-ltb, leb-true}
 use Rattle.std.proofs.lemmas.Bool.{and_parts, and_from}
 use Rattle.language.specs.Basics.{every, flat}
 use Rattle.language.specs.Bytes.{Name, in_bytes, eight, with_length, all_bytes}
@@ -12,7 +12,7 @@ pub bytes_append : (xs ys : List ℕ) → all_bytes xs ≡ true → all_bytes ys
 bytes_append = every_append (λ b. ltb b 256)
 
 pub bytes_first : (b : ℕ) (bs : List ℕ) → b < 256 → all_bytes bs ≡ true → all_bytes (b ∷ bs) ≡ true
-bytes_first b bs h k = and_from _ _ (lt-ltb b 256 h) k
+bytes_first _ _ h k = and_from _ _ (lt-ltb _ _ h) k
 
 pub bytes_in : (k n : ℕ) (bs : List ℕ) → all_bytes bs ≡ true → all_bytes (in_bytes k n bs) ≡ true
 unfolding in_bytes
@@ -23,7 +23,7 @@ pub bytes_eight : (n : ℕ) → all_bytes (eight n) ≡ true
 bytes_eight n = bytes_in 8 n [] refl
 
 pub bytes_name : (x : Name) → a_name x ≡ true → all_bytes (with_length x) ≡ true
-bytes_name x h = bytes_append (eight (length x)) x (bytes_eight (length x)) (and_parts (leb 1 (length x) && leb (length x) 32) (all_bytes x) h).1
+bytes_name x h = grind (arith, bytes_append, bytes_eight)
 
 mutual
   unfolding expr_spelled an_expr
@@ -32,48 +32,37 @@ mutual
   bytes_expr (num n) h = bytes_first 0 (eight n) (omega arith) (bytes_eight n)
   bytes_expr (var x) h = bytes_first 1 (with_length x) (omega arith) (bytes_name x h)
   bytes_expr (bin k a b) h =
-      let q = and_parts (ltb k 6) (an_expr a && an_expr b) h in
-      let r = and_parts (an_expr a) (an_expr b) q.1 in
+      let q = and_parts _ _ h in
+      let r = and_parts _ _ q.1 in
       bytes_first 2 (k ∷ (expr_spelled a ++ expr_spelled b)) (omega arith) (bytes_first k (expr_spelled a ++ expr_spelled b) (omega (arith, ltb-true k 6 q.0)) (bytes_append (expr_spelled a) (expr_spelled b) (bytes_expr a r.0) (bytes_expr b r.1)))
   bytes_expr (call f es) h =
-      let q = and_parts (a_name f && leb (count_exprs es) 16) (all_exprs es) h in
-      let r = and_parts (a_name f) (leb (count_exprs es) 16) q.0 in
+      let q = and_parts _ _ h in
+      let r = and_parts _ _ q.0 in
       bytes_first 3 (with_length f ++ count_exprs es ∷ exprs_spelled es) (omega arith) (bytes_append (with_length f) (count_exprs es ∷ exprs_spelled es) (bytes_name f r.0) (bytes_first (count_exprs es) (exprs_spelled es) (omega (arith, leb-true (count_exprs es) 16 r.1)) (bytes_exprs es q.1)))
   bytes_expr (bind x a b) h =
-      let q = and_parts (a_name x) (an_expr a && an_expr b) h in
-      let r = and_parts (an_expr a) (an_expr b) q.1 in
+      let q = and_parts _ _ h in
+      let r = and_parts _ _ q.1 in
       bytes_first 4 (with_length x ++ expr_spelled a ++ expr_spelled b) (omega arith) (bytes_append (with_length x ++ expr_spelled a) (expr_spelled b) (bytes_append (with_length x) (expr_spelled a) (bytes_name x q.0) (bytes_expr a r.0)) (bytes_expr b r.1))
   bytes_expr (choice c a b) h =
-      let q = and_parts (an_expr c) (an_expr a && an_expr b) h in
-      let r = and_parts (an_expr a) (an_expr b) q.1 in
+      let q = and_parts _ _ h in
+      let r = and_parts _ _ q.1 in
       bytes_first 5 (expr_spelled c ++ expr_spelled a ++ expr_spelled b) (omega arith) (bytes_append (expr_spelled c ++ expr_spelled a) (expr_spelled b) (bytes_append (expr_spelled c) (expr_spelled a) (bytes_expr c q.0) (bytes_expr a r.0)) (bytes_expr b r.1))
   bytes_expr (tell a) h = bytes_first 6 (expr_spelled a) (omega arith) (bytes_expr a h)
 
   pub bytes_exprs : (es : Exprs) → all_exprs es ≡ true → all_bytes (exprs_spelled es) ≡ true
   bytes_exprs no_exprs h = refl
   bytes_exprs (expr_and e es) h =
-      let q = and_parts (an_expr e) (all_exprs es) h in
+      let q = and_parts _ _ h in
       bytes_append (expr_spelled e) (exprs_spelled es) (bytes_expr e q.0) (bytes_exprs es q.1)
 
 pub bytes_flat : {A : Type 0} (f : A → List ℕ) (ok : A → Bool) → ((a : A) → ok a ≡ true → all_bytes (f a) ≡ true) → (xs : List A) → every ok xs ≡ true → all_bytes (flat f xs) ≡ true
 bytes_flat f ok each-one [] h = refl
 bytes_flat f ok each-one (x ∷ xs) h =
-    let q = and_parts (ok x) (every ok xs) h in
+    let q = and_parts _ _ h in
     bytes_append (f x) (flat f xs) (each-one x q.0) (bytes_flat f ok each-one xs q.1)
 
 pub bytes_fun : (f : Fun) → a_fun f ≡ true → all_bytes (fun_spelled f) ≡ true
-bytes_fun f h =
-    let q = and_parts (a_name f.name && (leb (length f.params) 16 && every a_name f.params)) (an_expr f.body) h in
-    let r = and_parts (a_name f.name) (leb (length f.params) 16 && every a_name f.params) q.0 in
-    let s = and_parts (leb (length f.params) 16) (every a_name f.params) r.1 in
-    bytes_append (with_length f.name ++ eight (length f.params) ++ flat with_length f.params) (expr_spelled f.body)
-    (bytes_append (with_length f.name ++ eight (length f.params)) (flat with_length f.params)
-    (bytes_append (with_length f.name) (eight (length f.params)) (bytes_name f.name r.0) (bytes_eight _))
-    (bytes_flat with_length a_name bytes_name f.params s.1))
-    (bytes_expr f.body q.1)
+bytes_fun f h = grind (arith, bytes_append, bytes_eight, bytes_flat, bytes_expr)
 
 pub bytes_program : (p : Program) → a_program p ≡ true → all_bytes (program_spelled p) ≡ true
-bytes_program p h =
-    let q = and_parts (leb (length p) 1024 && every a_fun p) (leb (length (program_spelled p)) 65536) h in
-    bytes_append (eight (length p)) (flat fun_spelled p) (bytes_eight (length p))
-    (bytes_flat fun_spelled a_fun bytes_fun p (and_parts (leb (length p) 1024) (every a_fun p) q.0).1)
+bytes_program p h = grind (arith, bytes_append, bytes_eight, bytes_flat, bytes_fun)

@@ -1,5 +1,5 @@
 -- One name, or one function, after the other. Assumes nothing.
-use Rattle.std.proofs.Common.{◌≡◌, ℕ, suc, ◌+◌, true, false, not, ◌&&◌, List, [], ◌∷◌, Some, None, sym, ap, ◌∙◌, ap₂}
+use Rattle.std.proofs.Common.{arith, ◌≡◌, ℕ, suc, ◌+◌, true, false, ◌&&◌, List, [], ◌∷◌, Some, None, ap, ◌∙◌}
 use Rattle.std.specs.List.{between}
 use Rattle.language.specs.Basics.{pick, or, same}
 use Rattle.language.specs.Bytes.{Name}
@@ -18,22 +18,20 @@ module _ (bs : List ℕ) (x : Name) (i n m : ℕ) where
   find_none e = ap (λ k. find_from k bs x i) e
 
   pub find_no_name : n ≡ suc m → name_end bs i ≡ None → find_from n bs x i ≡ None
-  find_no_name e p = find_turn e ∙ ap (λ o. found o (λ j. pick (same (between (i + 8) j bs) x) (Some i) (found (fun_end bs i) (λ k. find_from m bs x k)))) p
+  find_no_name e p = grind (arith, find_turn)
 
   -- at a name: what is there decides it
   at_name : n ≡ suc m → (j : ℕ) → name_end bs i ≡ Some j → find_from n bs x i ≡ pick (same (name_there bs i) x) (Some i) (found (fun_end bs i) (λ k. find_from m bs x k))
-  at_name e j p =
-      find_turn e ∙ ap (λ o. found o (λ j. pick (same (between (i + 8) j bs) x) (Some i) (found (fun_end bs i) (λ k. find_from m bs x k)))) p
-      ∙ ap (λ o. pick (same (listed o (λ k. between (i + 8) k bs)) x) (Some i) (found (fun_end bs i) (λ k. find_from m bs x k))) (sym p)
+  at_name e j p = grind (arith, find_turn)
 
   pub find_here : n ≡ suc m → (j : ℕ) → name_end bs i ≡ Some j → same (name_there bs i) x ≡ true → find_from n bs x i ≡ Some i
-  find_here e j p t = at_name e j p ∙ ap (λ b. pick b (Some i) (found (fun_end bs i) (λ k. find_from m bs x k))) t
+  find_here e j p t = grind (arith, at_name)
 
   pub find_cut : n ≡ suc m → (j : ℕ) → name_end bs i ≡ Some j → same (name_there bs i) x ≡ false → fun_end bs i ≡ None → find_from n bs x i ≡ None
-  find_cut e j p t f = at_name e j p ∙ ap₂ (λ b o. pick b (Some i) (found o (λ k. find_from m bs x k))) t f
+  find_cut e j p t f = grind (arith, at_name)
 
   pub find_more : n ≡ suc m → (j k : ℕ) → name_end bs i ≡ Some j → same (name_there bs i) x ≡ false → fun_end bs i ≡ Some k → find_from n bs x i ≡ find_from m bs x k
-  find_more e j k p t f = at_name e j p ∙ ap₂ (λ b o. pick b (Some i) (found o (λ k. find_from m bs x k))) t f
+  find_more e j k p t f = grind (arith, at_name)
 
 -- names, one after the other
 module _ (bs : List ℕ) (i n m : ℕ) where
@@ -46,11 +44,10 @@ module _ (bs : List ℕ) (i n m : ℕ) where
   names_none e = ap (λ k. names_from k bs i) e
 
   pub names-cut : n ≡ suc m → name_end bs i ≡ None → names_from n bs i ≡ []
-  names-cut e p = names-turn e ∙ ap (λ o. listed o (λ j. between (i + 8) j bs ∷ names_from m bs j)) p
+  names-cut e p = grind (arith, names-turn)
 
   pub names_more : n ≡ suc m → (j : ℕ) → name_end bs i ≡ Some j → names_from n bs i ≡ name_there bs i ∷ names_from m bs j
-  names_more e j p =
-      names-turn e ∙ ap (λ o. listed o (λ j. between (i + 8) j bs ∷ names_from m bs j)) p ∙ ap (λ o. listed o (λ k. between (i + 8) k bs) ∷ names_from m bs j) (sym p)
+  names_more e j p = grind (arith, names-turn)
 
 -- a name among them
 module _ (bs : List ℕ) (i n m : ℕ) (x : Name) where
@@ -64,7 +61,7 @@ module _ (bs : List ℕ) (i n m : ℕ) (x : Name) where
   among_here e j p t = ap (λ xs. has xs x) (names_more bs i n m e j p) ∙ ap (λ b. or b (has (names_from m bs j) x)) t
 
   pub among_more : n ≡ suc m → (j : ℕ) → name_end bs i ≡ Some j → same x (name_there bs i) ≡ false → has (names_from n bs i) x ≡ has (names_from m bs j) x
-  among_more e j p t = ap (λ xs. has xs x) (names_more bs i n m e j p) ∙ ap (λ b. or b (has (names_from m bs j) x)) t
+  among_more e j p t = grind (arith, names_more)
 
 -- all of them differ
 module _ (bs : List ℕ) (i n m : ℕ) where
@@ -78,20 +75,19 @@ module _ (bs : List ℕ) (i n m : ℕ) where
 
   pub differ_not : n ≡ suc m → (j : ℕ) → name_end bs i ≡ Some j → has (names_from m bs j) (name_there bs i) ≡ true → distinct (names_from n bs i) ≡ false
   unfolding distinct
-  differ_not e j p t = ap distinct (names_more bs i n m e j p) ∙ ap (λ b. not b && distinct (names_from m bs j)) t
+  differ_not e j p t = grind (arith, names_more)
 
   pub differ_more : n ≡ suc m → (j : ℕ) → name_end bs i ≡ Some j → has (names_from m bs j) (name_there bs i) ≡ false → distinct (names_from n bs i) ≡ distinct (names_from m bs j)
   unfolding distinct
-  differ_more e j p t = ap distinct (names_more bs i n m e j p) ∙ ap (λ b. not b && distinct (names_from m bs j)) t
+  differ_more e j p t = grind (arith, names_more)
 
 pub own_no_name : (bs : List ℕ) (i : ℕ) → name_end bs i ≡ None → distinct (own_names bs i) ≡ true
 unfolding distinct
-own_no_name bs i e = ap (λ o. distinct (listed o (λ j. listed (number_at bs j) (λ n. names_from n bs (j + 8))))) e
+own_no_name bs i e = grind arith
 
 pub own_no_count : (bs : List ℕ) (i j : ℕ) → name_end bs i ≡ Some j → number_at bs j ≡ None → distinct (own_names bs i) ≡ true
 unfolding distinct
-own_no_count bs i j e p =
-    ap (λ o. distinct (listed o (λ j. listed (number_at bs j) (λ n. names_from n bs (j + 8))))) e ∙ ap (λ o. distinct (listed o (λ n. names_from n bs (j + 8)))) p
+own_no_count bs i j e p = grind arith
 
 -- functions' own names, one function after the other
 module _ (bs : List ℕ) (i n m : ℕ) where
@@ -104,10 +100,10 @@ module _ (bs : List ℕ) (i n m : ℕ) where
   owns_none e = ap (λ k. owns_differ k bs i) e
 
   pub owns_not : n ≡ suc m → distinct (own_names bs i) ≡ false → owns_differ n bs i ≡ false
-  owns_not e t = owns_turn e ∙ ap (λ b. b && passed (fun_end bs i) (λ k. owns_differ m bs k)) t
+  owns_not e t = grind (arith, owns_turn)
 
   pub owns_cut : n ≡ suc m → distinct (own_names bs i) ≡ true → fun_end bs i ≡ None → owns_differ n bs i ≡ true
-  owns_cut e t f = owns_turn e ∙ ap₂ (λ b o. b && passed o (λ k. owns_differ m bs k)) t f
+  owns_cut e t f = grind (arith, owns_turn)
 
   pub owns_more : n ≡ suc m → (k : ℕ) → distinct (own_names bs i) ≡ true → fun_end bs i ≡ Some k → owns_differ n bs i ≡ owns_differ m bs k
-  owns_more e k t f = owns_turn e ∙ ap₂ (λ b o. b && passed o (λ k. owns_differ m bs k)) t f
+  owns_more e k t f = grind (arith, owns_turn)

@@ -9,19 +9,20 @@ use Rattle.language.specs.Bytes.{Name, eight, with_length, all_bytes}
 use Rattle.language.specs.Expr.{Fun, Program}
 use Rattle.language.specs.Meaning.{fun_of}
 use Rattle.language.specs.Names.{distinct}
-use Rattle.language.specs.Spelling.{expr_spelled, fun_spelled, program_spelled}
-use Rattle.language.specs.Fits.{a_name, an_expr, a_fun, a_program}
-use Rattle.language.specs.Reading.{found, number_at, name_end, fun_end}
-use Rattle.language.specs.Contents.{listed, passed, name_there, names_from, own_names, fun_names, owns_differ, names_differ, is_fine, find_from, find_function}
+use Rattle.language.specs.Spelling.{fun_spelled, program_spelled}
+use Rattle.language.specs.Fits.{a_name, a_fun, a_program}
+use Rattle.language.specs.Reading.{number_at, name_end, fun_end}
+use Rattle.language.specs.Contents.{listed, passed, name_there, names_from, own_names, fun_names, owns_differ, is_fine, find_from, find_function}
 use Rattle.language.proofs.StandsFacts.{Stands, stands-first, stands-second, stands-taken, length-eight, number_stands}
 use Rattle.language.proofs.HeadFacts.{length_with, name-stands, name_bytes}
 use Rattle.language.proofs.ByteFacts.{bytes_program}
-use Rattle.language.proofs.ProgramFacts.{params_spelled, some_params, fun_reads, program_parts, program_number, program_funs}
+use Rattle.language.proofs.ProgramFits.{program_fits}
+use Rattle.language.proofs.ProgramFacts.{params_spelled, some_params, fun_reads, program_number, program_funs}
 use Rattle.language.proofs.ContentsFacts.{names_none, names_more, owns_none, owns_turn, find_none, find_here, find_more}
 
 -- names that stand there are read
 pub name_is : (bs : List ℕ) (i : ℕ) (x : Name) → a_name x ≡ true → Stands bs i (with_length x) → name_there bs i ≡ x
-name_is bs i x fit s = ap (λ o. listed o (λ j. between (i + 8) j bs)) (name-stands bs i x fit s) ∙ name_bytes bs i x fit s
+name_is bs i x fit s = grind (arith, name-stands, name_bytes)
 
 pub names_are : (bs : List ℕ) (i : ℕ) (xs : List Name) → every a_name xs ≡ true → Stands bs i (flat with_length xs) → names_from (length xs) bs i ≡ xs
 names_are bs i [] fit s = names_none bs i 0 0 refl
@@ -30,7 +31,7 @@ names_are bs i (x ∷ xs) fit s =
     ∙ ap₂ ◌∷◌ (name_is bs i x q.0 first) (names_are bs (i + 8 + length x) xs q.1 after)
   where
     q : (a_name x ≡ true) × (every a_name xs ≡ true)
-    q = and_parts (a_name x) (every a_name xs) fit
+    q = and_parts _ _ fit
 
     first : Stands bs i (with_length x)
     first = stands-first bs i (with_length x) (flat with_length xs) s
@@ -49,7 +50,7 @@ own_are bs i x xs fit own s =
     k = i + 8 + length x
 
     q : (leb (length xs) 16 ≡ true) × (every a_name xs ≡ true)
-    q = and_parts (leb (length xs) 16) (every a_name xs) own
+    q = and_parts _ _ own
 
     few : length xs ≤ 16
     few = leb-true _ _ q.0
@@ -68,18 +69,16 @@ module _ (bs : List ℕ) (i n m : ℕ) where
   fun_names_none e = ap (λ k. fun_names k bs i) e
 
   pub fun_names_no_name : n ≡ suc m → name_end bs i ≡ None → fun_names n bs i ≡ []
-  fun_names_no_name e p = fun_names-turn e ∙ ap (λ o. listed o (λ j. between (i + 8) j bs ∷ listed (fun_end bs i) (λ k. fun_names m bs k))) p
+  fun_names_no_name e p = grind (arith, fun_names-turn)
 
   at_fun-name : n ≡ suc m → (j : ℕ) → name_end bs i ≡ Some j → fun_names n bs i ≡ name_there bs i ∷ listed (fun_end bs i) (λ k. fun_names m bs k)
-  at_fun-name e j p =
-      fun_names-turn e ∙ ap (λ o. listed o (λ j. between (i + 8) j bs ∷ listed (fun_end bs i) (λ k. fun_names m bs k))) p
-      ∙ ap (λ o. listed o (λ j. between (i + 8) j bs) ∷ listed (fun_end bs i) (λ k. fun_names m bs k)) (sym p)
+  at_fun-name e j p = grind (arith, fun_names-turn)
 
   pub fun_names-cut : n ≡ suc m → (j : ℕ) → name_end bs i ≡ Some j → fun_end bs i ≡ None → fun_names n bs i ≡ name_there bs i ∷ []
-  fun_names-cut e j p f = at_fun-name e j p ∙ ap (λ o. name_there bs i ∷ listed o (λ k. fun_names m bs k)) f
+  fun_names-cut e j p f = grind (arith, at_fun-name)
 
   pub fun_names_more : n ≡ suc m → (j k : ℕ) → name_end bs i ≡ Some j → fun_end bs i ≡ Some k → fun_names n bs i ≡ name_there bs i ∷ fun_names m bs k
-  fun_names_more e j k p f = at_fun-name e j p ∙ ap (λ o. name_there bs i ∷ listed o (λ k. fun_names m bs k)) f
+  fun_names_more e j k p f = grind (arith, at_fun-name)
 
 -- functions stand there: what is read of the first, and where the others stand
 pub record NextFun (bs : List ℕ) (i : ℕ) (f : Fun) (rest : List Fun) : Type 0 where
@@ -107,19 +106,19 @@ module _ (bs : List ℕ) (bytes : all_bytes bs ≡ true) where
       }
     where
       q : (a_fun f ≡ true) × (every a_fun rest ≡ true)
-      q = and_parts (a_fun f) (every a_fun rest) fit
+      q = and_parts _ _ fit
 
       r : (a_name f.name ≡ true) × (some_params f.params ≡ true)
-      r = and_parts (a_name f.name) (some_params f.params) (and_parts (a_name f.name && some_params f.params) (an_expr f.body) q.0).0
+      r = and_parts _ _ (and_parts _ _ q.0).0
 
       here : Stands bs i (fun_spelled f)
-      here = stands-first bs i (fun_spelled f) (flat fun_spelled rest) s
+      here = grind (arith, stands-first)
 
       names : Stands bs i (with_length f.name ++ params_spelled f.params)
-      names = stands-first bs i (with_length f.name ++ params_spelled f.params) (expr_spelled f.body) (subst (Stands bs i) (simp append_assoc) here)
+      names = grind (arith, stands-first, params_spelled, append_assoc, here)
 
       name : Stands bs i (with_length f.name)
-      name = stands-first bs i (with_length f.name) (params_spelled f.params) names
+      name = grind (arith, stands-first)
 
   pub names_law : (i : ℕ) (fs : List Fun) → every a_fun fs ≡ true → Stands bs i (flat fun_spelled fs) → fun_names (length fs) bs i ≡ each (λ f. f.name) fs
   names_law i [] fit s = fun_names_none bs i 0 0 refl
@@ -148,7 +147,7 @@ module _ (bs : List ℕ) (bytes : all_bytes bs ≡ true) where
 
       go : (t : Bool) → same f.name x ≡ t → pick t (f ∷ []) (fun_of fs x) ≡ [] →
           (fun_of fs x ≡ [] → find_from (length fs) bs x (i + length (fun_spelled f)) ≡ None) → find_from (suc (length fs)) bs x i ≡ None
-      go true e h ih = let z : ◌≡◌ {A = ℕ} 0 1 = cc in absurd (omega arith)
+      go true e h ih = absurd cc
       go false e h ih =
           find_more bs x i (suc (length fs)) (length fs) refl (i + 8 + length f.name) (i + length (fun_spelled f)) n.name-ends
           (ap (λ y. same y x) n.named ∙ e) n.ends
@@ -198,7 +197,7 @@ module _ (bs : List ℕ) (bytes : all_bytes bs ≡ true) (x : Name) where
   pub find_law_some : (i : ℕ) (fs : List Fun) (f : Fun) (gs : List Fun) → every a_fun fs ≡ true → Stands bs i (flat fun_spelled fs) → fun_of fs x ≡ f ∷ gs →
       FoundAt bs x i fs f
   unfolding fun_of
-  find_law_some i [] f gs fit s h = let z : ◌≡◌ {A = ℕ} 0 1 = cc in absurd (omega arith)
+  find_law_some i [] f gs fit s h = absurd cc
   find_law_some i (g ∷ fs) f gs fit s h = go (same g.name x) refl h (find_law_some (i + length (fun_spelled g)) fs f gs n.rest_fit n.after)
     where
       n : NextFun bs i g fs
@@ -213,16 +212,13 @@ module _ (bs : List ℕ) (bytes : all_bytes bs ≡ true) (x : Name) where
 module _ (p : Program) (fit : a_program p ≡ true) where
   pub fine_law : is_fine (program_spelled p) ≡ (distinct (each (λ f. f.name) p) && every (λ f. distinct f.params) p)
   unfolding is_fine
-  fine_law =
-      ap (λ o. passed o (λ n. names_differ (program_spelled p) n)) (program_number p fit)
-      ∙ ap₂ (λ xs b. distinct xs && b) (names_law (program_spelled p) (bytes_program p fit) 8 p (program_parts p fit).1 (program_funs p fit))
-      (owns_law (program_spelled p) (bytes_program p fit) 8 p (program_parts p fit).1 (program_funs p fit))
+  fine_law = grind (arith, program_number, names_law, bytes_program, program_fits, program_funs, owns_law)
 
   find_in : (x : Name) → find_function (program_spelled p) x ≡ find_from (length p) (program_spelled p) x 8
-  find_in x = ap (λ o. found o (λ n. find_from n (program_spelled p) x 8)) (program_number p fit)
+  find_in x = grind (arith, program_number)
 
   pub find_program_none : (x : Name) → fun_of p x ≡ [] → find_function (program_spelled p) x ≡ None
-  find_program_none x h = find_in x ∙ find_law_none (program_spelled p) (bytes_program p fit) x 8 p (program_parts p fit).1 (program_funs p fit) h
+  find_program_none x h = grind (arith, find_in, find_law_none, bytes_program, program_fits, program_funs)
 
 -- f was found by the name x in the spelling of p
 pub record FoundIn (p : Program) (x : Name) (f : Fun) : Type 0 where
@@ -237,7 +233,7 @@ stands-between bs i p s = ap (λ n. take n (drop i bs)) (let z : i + length p - 
 pub find_program_some : (p : Program) → a_program p ≡ true → (x : Name) (f : Fun) (gs : List Fun) → fun_of p x ≡ f ∷ gs → FoundIn p x f
 find_program_some p fit x f gs h =
     let bytes = bytes_program p fit in
-    let r = find_law_some (program_spelled p) bytes x 8 p f gs (program_parts p fit).1 (program_funs p fit) h in
+    let r = find_law_some (program_spelled p) bytes x 8 p f gs (program_fits p fit).1 (program_funs p fit) h in
     record {
       place = r;
       found = find_in p fit x ∙ r.found;

@@ -1,10 +1,9 @@
 -- What a run came to, it comes to however deep it may go: each step of a run keeps `Under`, so by induction on the depth a run does.
 -- Assumes nothing.
-use Rattle.std.proofs.Common.{◌≡◌, ℕ, zero, suc, ◌+◌, ◌≤◌, Bool, true, false, eqb, List, [], ◌∷◌, ◌++◌, length, sym, refl, ap, append_assoc, arith}
+use Rattle.std.proofs.Common.{◌≡◌, ℕ, zero, suc, ◌+◌, ◌≤◌, false, List, [], ◌∷◌, ◌++◌, sym, refl, ap, append_assoc, arith}
 use borrow.Author.Tests.{clash}
-use Rattle.language.specs.Basics.{pick}
 use Rattle.language.specs.Expr.{Expr, num, var, bin, call, bind, choice, tell, Exprs, no_exprs, expr_and, Fun, Program}
-use Rattle.language.specs.Meaning.{Came, came, wrong, deep, Bound, fun_of, small, reckon, after_telling, then, looked, look, binds, Cames, cames, wrongs, deeps, more_cames, and_cames, Ev, eval_all, called, step, eval}
+use Rattle.language.specs.Meaning.{Came, came, wrong, deep, Bound, small, after_telling, then, looked, look, Cames, cames, wrongs, deeps, more_cames, Ev, eval_all, called, step, eval}
 use Rattle.language.specs.Equivalence.{is_deep}
 use Rattle.language.specs.Statements.{DeeperSame}
 
@@ -69,22 +68,10 @@ more_under v ts (cames vs us) b h = ap (more_cames v ts) h
 more_under v ts (wrongs k us) b h = ap (more_cames v ts) h
 more_under v ts deeps b h = tt
 
-pub and_under : (a b : Came) (f g : ℕ → List ℕ → Cames) → Under a b →
-    ((v : ℕ) (ts : List ℕ) → Unders (f v ts) (g v ts)) → Unders (and_cames a f) (and_cames b g)
-and_under (came v ts) b f g h k = rw h (k v ts)
-and_under (wrong i ts) b f g h k = rw h refl
-and_under deep b f g h k = tt
-
 pub all_under : (ev ew : Expr → Came) → ((e : Expr) → Under (ev e) (ew e)) → (es : Exprs) → Unders (eval_all ev es) (eval_all ew es)
 unfolding eval_all
 all_under ev ew h no_exprs = refl
-all_under ev ew h (expr_and e es) =
-    and_under (ev e) (ew e) (λ v ts. more_cames v ts (eval_all ev es)) (λ v ts. more_cames v ts (eval_all ew es)) (h e)
-    (λ v ts. more_under v ts (eval_all ev es) (eval_all ew es) (all_under ev ew h es))
-
-pub pick_under : (t : Bool) (a b c d : Came) → Under a c → Under b d → Under (pick t a b) (pick t c d)
-pick_under true a b c d h k = h
-pick_under false a b c d h k = k
+all_under ev ew h (expr_and e es) = grind (arith, all_under ev ew h es)
 
 pub called-under : (ev ew : Ev) → ((bs : List Bound) (e : Expr) → Under (ev bs e) (ew bs e)) → (fs : List Fun) (a b : Cames) → Unders a b →
     Under (called ev fs a) (called ew fs b)
@@ -92,10 +79,7 @@ unfolding called
 called-under ev ew h [] (cames vs ts) b k = rw k refl
 called-under ev ew h [] (wrongs i ts) b k = rw k refl
 called-under ev ew h [] deeps b k = tt
-called-under ev ew h (f ∷ fs) (cames vs ts) b k =
-    rw k (pick_under (eqb (length vs) (length f.params)) (after_telling ts (ev (binds f.params vs) f.body)) (wrong 3 ts)
-    (after_telling ts (ew (binds f.params vs) f.body)) (wrong 3 ts)
-    (after-under ts (ev (binds f.params vs) f.body) (ew (binds f.params vs) f.body) (h (binds f.params vs) f.body)) refl)
+called-under ev ew h (f ∷ fs) (cames vs ts) b k = grind (arith, after-under)
 called-under ev ew h (f ∷ fs) (wrongs i ts) b k = rw k refl
 called-under ev ew h (f ∷ fs) deeps b k = tt
 
@@ -104,19 +88,11 @@ pub step-under : (p : Program) (ev ew : Ev) → ((bs : List Bound) (e : Expr) �
 unfolding step
 step-under p ev ew h bs (num n) = under_refl (small n)
 step-under p ev ew h bs (var x) = under_refl (looked (look bs x))
-step-under p ev ew h bs (bin k a b) =
-    then-under (ev bs a) (ew bs a) (λ v. then (ev bs b) (λ w. reckon k v w)) (λ v. then (ew bs b) (λ w. reckon k v w)) (h bs a)
-    (λ v. then-under (ev bs b) (ew bs b) (λ w. reckon k v w) (λ w. reckon k v w) (h bs b) (λ w. under_refl (reckon k v w)))
-step-under p ev ew h bs (call f es) =
-    called-under ev ew h (fun_of p f) (eval_all (ev bs) es) (eval_all (ew bs) es) (all_under (ev bs) (ew bs) (h bs) es)
-step-under p ev ew h bs (bind x a b) =
-    then-under (ev bs a) (ew bs a) (λ v. ev (record { name = x; value = v } ∷ bs) b) (λ v. ew (record { name = x; value = v } ∷ bs) b) (h bs a)
-    (λ v. h (record { name = x; value = v } ∷ bs) b)
-step-under p ev ew h bs (choice c a b) =
-    then-under (ev bs c) (ew bs c) (λ v. pick (eqb v 0) (ev bs b) (ev bs a)) (λ v. pick (eqb v 0) (ew bs b) (ew bs a)) (h bs c)
-    (λ v. pick_under (eqb v 0) (ev bs b) (ev bs a) (ew bs b) (ew bs a) (h bs b) (h bs a))
-step-under p ev ew h bs (tell a) =
-    then-under (ev bs a) (ew bs a) (λ v. came v (v ∷ [])) (λ v. came v (v ∷ [])) (h bs a) (λ v. refl)
+step-under p ev ew h bs (bin k a b) = grind (arith, then-under)
+step-under p ev ew h bs (call f es) = grind (arith, called-under, all_under)
+step-under p ev ew h bs (bind x a b) = grind (arith, then-under)
+step-under p ev ew h bs (choice c a b) = grind (arith, then-under)
+step-under p ev ew h bs (tell a) = grind (arith, then-under)
 
 pub eval_up : (n m : ℕ) (p : Program) (bs : List Bound) (e : Expr) → n ≤ m → Under (eval n p bs e) (eval m p bs e)
 unfolding eval

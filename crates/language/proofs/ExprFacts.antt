@@ -1,6 +1,6 @@
 -- Expressions are skipped where they stand, and where something is skipped expressions stand. Both by induction on how many heads may be
 -- read, over all expressions that are still to come. Assumes nothing.
-use Rattle.std.proofs.Common.{◌≡◌, ℕ, zero, suc, ◌+◌, ◌-◌, ◌≤◌, true, leb, List, [], ◌∷◌, ◌++◌, length, take, drop, Some, sym, refl, ap, ◌∙◌, subst, ap₂, add-zero, arith}
+use Rattle.std.proofs.Common.{◌≡◌, ℕ, zero, suc, ◌+◌, ◌-◌, ◌≤◌, true, List, [], ◌∷◌, ◌++◌, length, take, drop, Some, sym, refl, ap, ◌∙◌, subst, add-zero, arith}
 use Rattle.std.proofs.lemmas.List.{append_assoc, length-append, length-drop, length-take-le, take-append-drop}
 use Rattle.std.proofs.lemmas.Bool.{and_parts, and_from}
 use Rattle.language.specs.Basics.{every, flat}
@@ -8,24 +8,22 @@ use Rattle.language.specs.Bytes.{all_bytes}
 use Rattle.language.specs.Expr.{Expr, parts}
 use Rattle.language.specs.Spelling.{expr_spelled}
 use Rattle.language.specs.Fits.{an_expr}
-use Rattle.language.specs.Heads.{Head, head_of, arity, head_spelled, a_head}
-use Rattle.language.specs.Reading.{Token, token, head_at, ends}
+use Rattle.language.specs.Heads.{Head, head_of, arity, head_spelled}
+use Rattle.language.specs.Reading.{Token, token, ends}
 use Rattle.language.proofs.ListFacts.{every_take, every_drop, every_append, flat_append}
-use Rattle.language.proofs.ReadingFacts.{ends-done, ends_short, ends_more, ends_after, ends-turn, found_some, pick-found}
+use Rattle.language.proofs.ReadingFacts.{ends-done, ends_short, ends_more, ends-turn, found_some, pick-found}
 use Rattle.language.proofs.StandsFacts.{Stands, stands-first, stands-second, stands_join, stands_in}
 use Rattle.language.proofs.HeadFacts.{head-stands, HeadThere, head-there}
-use Rattle.language.proofs.NodeFacts.{spelled_node, parts-arity, head-fits, node_fits, Node, node, head-long, spelled-long}
+use Rattle.language.proofs.PartsFacts.{spelled_nine}
+use Rattle.language.proofs.NodeFacts.{spelled_node, parts-arity, head-fits, node_fits, Node, node, head-long}
 
 -- an expression and those after it: its head, then its parts and those after it
 pub spelled-next : (e : Expr) (es : List Expr) → flat expr_spelled (e ∷ es) ≡ head_spelled (head_of e) ++ flat expr_spelled (parts e ++ es)
-spelled-next e es =
-    ap (λ r. r ++ flat expr_spelled es) (spelled_node e) ∙ append_assoc (head_spelled (head_of e)) (flat expr_spelled (parts e)) (flat expr_spelled es)
-    ∙ ap (λ r. head_spelled (head_of e) ++ r) (sym (flat_append expr_spelled (parts e) es))
+spelled-next e es = grind (arith, spelled_node, append_assoc, flat_append)
 
 pub spelled_count : (es : List Expr) → length es ≤ length (flat expr_spelled es)
 spelled_count [] = omega arith
-spelled_count (e ∷ es) =
-    omega (arith, spelled-long e, spelled_count es, length-append (expr_spelled e) (flat expr_spelled es))
+spelled_count (e ∷ es) = grind (arith, spelled_nine, length-append, spelled_count es)
 
 -- where expressions stand, the first one's head stands, and after it its parts and the others
 module _ (bs : List ℕ) (i : ℕ) (e : Expr) (es : List Expr) (s : Stands bs i (flat expr_spelled (e ∷ es))) where
@@ -33,10 +31,10 @@ module _ (bs : List ℕ) (i : ℕ) (e : Expr) (es : List Expr) (s : Stands bs i 
   all-stands = subst (Stands bs i) (spelled-next e es) s
 
   pub first-stands : Stands bs i (head_spelled (head_of e))
-  first-stands = stands-first bs i (head_spelled (head_of e)) (flat expr_spelled (parts e ++ es)) all-stands
+  first-stands = grind (arith, stands-first, all-stands)
 
   pub rest-stands : Stands bs (i + length (head_spelled (head_of e))) (flat expr_spelled (parts e ++ es))
-  rest-stands = stands-second bs i (head_spelled (head_of e)) (flat expr_spelled (parts e ++ es)) all-stands
+  rest-stands = grind (arith, stands-second, all-stands)
 
 pub ends_stand : (f : ℕ) (bs : List ℕ) (i : ℕ) (es : List Expr) → every an_expr es ≡ true → Stands bs i (flat expr_spelled es) → length bs - i ≤ f →
     ends (length es) f bs i ≡ Some (i + length (flat expr_spelled es))
@@ -55,7 +53,7 @@ ends_stand (suc f) bs i (e ∷ es) fit s l =
     j = i + length (head_spelled (head_of e))
 
     both : (an_expr e ≡ true) × (every an_expr es ≡ true)
-    both = and_parts (an_expr e) (every an_expr es) fit
+    both = and_parts _ _ fit
 
     first : Stands bs i (head_spelled (head_of e))
     first = first-stands bs i e es s
@@ -95,16 +93,11 @@ module _ (bs : List ℕ) (i m j : ℕ) (t : Token) (h : HeadThere bs i t) (r : E
 
   spelled_it : flat expr_spelled (it.made ∷ others) ≡ head_spelled t.head ++ flat expr_spelled r.exprs
   unfolding its_parts others
-  spelled_it =
-      spelled-next it.made others
-      ∙ ap₂ (λ x ps. head_spelled x ++ flat expr_spelled (ps ++ others)) it.head_is it.parts_are
-      ∙ ap (λ es. head_spelled t.head ++ flat expr_spelled es) (take-append-drop (arity t.head) r.exprs)
+  spelled_it = grind (arith, spelled-next, it, others, take-append-drop)
 
   fits_it : an_expr it.made ≡ true
   unfolding its_parts
-  fits_it =
-      node_fits it.made (ap a_head it.head_is ∙ h.fits)
-      (ap (every an_expr) it.parts_are ∙ every_take an_expr (arity t.head) r.exprs r.fit)
+  fits_it = grind (arith, node_fits, every_take)
 
   with_head : ExprsThere bs i (suc m) j
   unfolding others
@@ -124,9 +117,9 @@ pub ends_there : (f n : ℕ) (bs : List ℕ) (i j : ℕ) → all_bytes bs ≡ tr
 ends_there f zero bs i j bytes e =
     let is : i ≡ j = cc (ends-done bs i 0 f refl) in
     record { exprs = []; count = refl; fit = refl; stands = ap (λ k. drop k bs) (sym (add-zero i)); end = omega arith }
-ends_there zero (suc n) bs i j bytes e = let z : ◌≡◌ {A = ℕ} 0 1 = cc (ends_short bs i (suc n) 0 (omega arith) refl) in absurd (omega arith)
+ends_there zero (suc n) bs i j bytes e = absurd (cc (ends_short bs i (suc n) 0 (omega arith) refl))
 ends_there (suc f) (suc n) bs i j bytes e =
-    let got = found_some (head_at bs i) (ends_after n f bs) j (sym (ends-turn n f bs i) ∙ e) in
+    let got = found_some _ _ _ (sym (ends-turn n f bs i) ∙ e) in
     let t = got.0 in
     with_head bs i n j t (head-there bs i t bytes got.1)
-    (ends_there f (arity t.head + n) bs t.end j bytes (pick-found (leb (arity t.head + n) (length bs - t.end)) (ends (arity t.head + n) f bs t.end) j got.2).1)
+    (ends_there f (arity t.head + n) bs t.end j bytes (pick-found _ _ _ got.2).1)

@@ -40,5 +40,5 @@ module _ (bs ks : List ℕ) (i : ℕ) (h : 0 < length ks) where
       place_at bs ks i ≡ place_at bs (between 1 (length ks) ks) j
   unfolding after_head
   place_more t j e p =
-      let kept = pick-found (ltb (get_or ks 0 0) (arity t.head)) (ends (get_or ks 0 0) (length bs) bs t.end) j p in
+      let kept = pick-found _ _ _ p in
       at-token t e ∙ ap₂ (λ b o. pick b (found o (λ j. place_at bs (between 1 (length ks) ks) j)) None) kept.0 kept.1

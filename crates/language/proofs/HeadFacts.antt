@@ -1,7 +1,8 @@
 -- Names and heads are read where they stand, and what is read stands there. Assumes nothing.
 use Rattle.std.proofs.Common.{◌≡◌, ℕ, ◌+◌, ◌-◌, ◌<◌, ◌≤◌, Bool, true, false, ◌&&◌, eqb, ltb, leb, List, [], ◌∷◌, ◌++◌, length, get_or, take, drop, Some, None, Option, sym, refl, ap, ◌∙◌, subst, ap₂, add-zero, arith, ltb-true, lt-ltb, eqb-true, le-leb, leb-true}
 use Rattle.std.specs.List.{between}
-use Rattle.std.proofs.lemmas.List.{length-append, length-drop, length-take-le}
+use Rattle.std.proofs.lemmas.List.{length-append}
+use Rattle.std.proofs.lemmas.List.Edits.{length-between}
 use Rattle.std.proofs.lemmas.Bool.{and_parts, and_from}
 use Rattle.language.specs.Basics.{pick}
 use Rattle.language.specs.Bytes.{Name, eight, with_length, all_bytes}
@@ -14,25 +15,19 @@ use Rattle.language.proofs.ReadingFacts.{found_some, pick_some, pick-found}
 use Rattle.language.proofs.StandsFacts.{Stands, stands-first, stands-second, stands_join, stands_in, stands-taken, taken-stands, stands_byte, byte_stands, length-eight, number_stands, NumberThere, number_there}
 
 pub length_with : (x : List ℕ) → length (with_length x) ≡ 8 + length x
-length_with x = length-append (eight (length x)) x ∙ ap (λ k. k + length x) (length-eight (length x))
+length_with x = grind (arith, length-append, length-eight)
+
+-- a name that fits has 1 to 32 bytes
+pub name_short : (x : Name) → a_name x ≡ true → (1 ≤ length x) × (length x ≤ 32)
+name_short x h = grind arith
 
 -- a name that stands there is read
 module _ (bs : List ℕ) (i : ℕ) (x : Name) (fits : a_name x ≡ true) (h : Stands bs i (with_length x)) where
-  short : (1 ≤ length x) × (length x ≤ 32)
-  short =
-      let p = and_parts (leb 1 (length x) && leb (length x) 32) (all_bytes x) fits in
-      let q = and_parts (leb 1 (length x)) (leb (length x) 32) p.0 in
-      (leb-true _ _ q.0, leb-true _ _ q.1)
-
   name_room : i + 8 + length x ≤ length bs
   name_room = omega (arith, stands_in bs i (with_length x) (omega (arith, length_with x)) h, length_with x)
 
   pub name-stands : name_end bs i ≡ Some (i + 8 + length x)
-  name-stands =
-      ap (λ o. found o (λ n. pick ((leb 1 n && leb n 32) && leb (i + 8 + n) (length bs)) (Some (i + 8 + n)) None))
-      (number_stands bs i (length x) (omega (arith, short)) (stands-first bs i (eight (length x)) x h))
-      ∙ ap (λ t. pick t (Some (i + 8 + length x)) None)
-      (and_from _ _ (and_from _ _ (le-leb _ _ short.0) (le-leb _ _ short.1)) (le-leb _ _ name_room))
+  name-stands = grind (arith, number_stands, stands-first, name_room)
 
   pub name_bytes : between (i + 8) (i + 8 + length x) bs ≡ x
   name_bytes =
@@ -49,25 +44,16 @@ pub record NameThere (bs : List ℕ) (i j : ℕ) : Type 0 where
 
 module _ (bs : List ℕ) (i n : ℕ) (bytes : all_bytes bs ≡ true) (there : NumberThere bs i n) (low : 1 ≤ n) (high : n ≤ 32) (room : i + 8 + n ≤ length bs) where
   name-length : length (between (i + 8) (i + 8 + n) bs) ≡ n
-  name-length =
-      ap (λ k. length (take k (drop (i + 8) bs))) (let z : i + 8 + n - (i + 8) ≡ n = omega arith in z)
-      ∙ length-take-le n (drop (i + 8) bs) (omega (arith, length-drop (i + 8) bs))
+  name-length = omega (arith, length-between bs (i + 8) (i + 8 + n) room)
 
   name-fits : a_name (between (i + 8) (i + 8 + n) bs) ≡ true
-  name-fits =
-      and_from _ _
-      (and_from _ _ (le-leb 1 (length (between (i + 8) (i + 8 + n) bs)) (omega (arith, name-length)))
-      (le-leb (length (between (i + 8) (i + 8 + n) bs)) 32 (omega (arith, name-length))))
-      (every_take (λ b. ltb b 256) (i + 8 + n - (i + 8)) (drop (i + 8) bs) (every_drop (λ b. ltb b 256) (i + 8) bs bytes))
+  name-fits = grind (arith, name-length, every_take, every_drop)
 
   bytes_stand : Stands bs (i + 8) (between (i + 8) (i + 8 + n) bs)
-  bytes_stand = taken-stands bs (i + 8) (i + 8 + n - (i + 8)) _ (omega (arith, name-length)) refl
+  bytes_stand = grind (arith, taken-stands, name-length)
 
   name_all_stands : Stands bs i (with_length (between (i + 8) (i + 8 + n) bs))
-  name_all_stands =
-      stands_join bs i (eight (length (between (i + 8) (i + 8 + n) bs))) (between (i + 8) (i + 8 + n) bs)
-      (subst (λ k. Stands bs i (eight k)) (sym name-length) there.stands)
-      (subst (λ k. Stands bs k (between (i + 8) (i + 8 + n) bs)) (omega (arith, length-eight (length (between (i + 8) (i + 8 + n) bs)))) bytes_stand)
+  name_all_stands = grind (arith, stands_join, name-length, length-eight, bytes_stand)
 
   name-made : NameThere bs i (i + 8 + n)
   name-made =
@@ -75,11 +61,11 @@ module _ (bs : List ℕ) (i n : ℕ) (bytes : all_bytes bs ≡ true) (there : Nu
 
 pub name_there : (bs : List ℕ) (i j : ℕ) → all_bytes bs ≡ true → name_end bs i ≡ Some j → NameThere bs i j
 name_there bs i j bytes e =
-    let got = found_some (number_at bs i) (λ n. pick ((leb 1 n && leb n 32) && leb (i + 8 + n) (length bs)) (Some (i + 8 + n)) None) j e in
+    let got = found_some _ _ _ e in
     let n = got.0 in
-    let kept = pick_some ((leb 1 n && leb n 32) && leb (i + 8 + n) (length bs)) (i + 8 + n) j got.2 in
-    let both = and_parts (leb 1 n && leb n 32) (leb (i + 8 + n) (length bs)) kept.0 in
-    let sizes = and_parts (leb 1 n) (leb n 32) both.0 in
+    let kept = pick_some _ _ _ got.2 in
+    let both = and_parts _ _ kept.0 in
+    let sizes = and_parts _ _ both.0 in
     subst (NameThere bs i) kept.1
     (name-made bs i n bytes (number_there bs i n bytes got.1) (leb-true _ _ sizes.0) (leb-true _ _ sizes.1) (leb-true _ _ both.1))
 
@@ -95,9 +81,7 @@ after_kind bs i k q h = stands-second bs i (k ∷ []) q h
 
 named_stands : (f : Name → Head) (bs : List ℕ) (i : ℕ) (x : Name) → a_name x ≡ true → Stands bs i (with_length x) →
     named_at f bs i ≡ Some (token (f x) (i + length (with_length x)))
-named_stands f bs i x fits h =
-    ap (λ o. found o (λ j. Some (token (f (between (i + 8) j bs)) j))) (name-stands bs i x fits h)
-    ∙ ap₂ (λ y j. Some (token (f y) j)) (name_bytes bs i x fits h) (omega (arith, length_with x))
+named_stands f bs i x fits h = grind (arith, name-stands, fits, name_bytes, length_with)
 
 call-stands : (bs : List ℕ) (i : ℕ) (x : Name) (k : ℕ) → a_name x ≡ true → k ≤ 16 → Stands bs i (with_length x ++ k ∷ []) →
     call_at bs i ≡ Some (token (h_call x k) (i + length (with_length x ++ k ∷ [])))
@@ -105,7 +89,7 @@ call-stands bs i x k fits few h =
     ap (λ o. found o (λ j. pick (ltb j (length bs) && leb (get_or bs j 0) 16) (Some (token (h_call (between (i + 8) j bs) (get_or bs j 0)) (j + 1))) None))
     (name-stands bs i x fits name)
     ∙ ap (λ t. pick t (Some (token (h_call (between (i + 8) (i + 8 + length x) bs) (get_or bs (i + 8 + length x) 0)) (i + 8 + length x + 1))) None)
-    (and_from _ _ (lt-ltb (i + 8 + length x) (length bs) room) (ap (λ b. leb b 16) count ∙ le-leb k 16 few))
+    (and_from _ _ (lt-ltb _ _ room) (ap (λ b. leb b 16) count ∙ le-leb _ _ few))
     ∙ ap₂ (λ y b. Some (token (h_call y b) (i + 8 + length x + 1))) (name_bytes bs i x fits name) count
     ∙ ap (λ j. Some (token (h_call x k) j)) (omega (arith, length_with x, length-append (with_length x) (k ∷ [])))
   where
@@ -122,26 +106,24 @@ call-stands bs i x k fits few h =
     room = omega (arith, stands_in bs (i + 8 + length x) (k ∷ []) (omega arith) rest)
 
 num-stands : (bs : List ℕ) (i n : ℕ) → n < limit → Stands bs i (eight n) → num_at bs i ≡ Some (token (h_num n) (i + 8))
-num-stands bs i n small h =
-    ap (λ o. found o (λ m. pick (ltb m limit) (Some (token (h_num m) (i + 8))) None)) (number_stands bs i n (omega arith) h)
-    ∙ ap (λ t. pick t (Some (token (h_num n) (i + 8))) None) (lt-ltb n limit small)
+num-stands bs i n small h = grind (arith, number_stands)
 
 bin-stands : (bs : List ℕ) (i k : ℕ) → k < 6 → Stands bs i (k ∷ []) → bin_at bs i ≡ Some (token (h_bin k) (i + 1))
 bin-stands bs i k few h =
-    ap₂ (λ t b. pick (t && ltb b 6) (Some (token (h_bin b) (i + 1))) None) (lt-ltb i (length bs) (omega (arith, stands_in bs i (k ∷ []) (omega arith) h))) (stands_byte bs i k h)
-    ∙ ap (λ t. pick t (Some (token (h_bin k) (i + 1))) None) (lt-ltb k 6 few)
+    ap₂ (λ t b. pick (t && ltb b 6) (Some (token (h_bin b) (i + 1))) None) (lt-ltb _ _ (omega (arith, stands_in bs i (k ∷ []) (omega arith) h))) (stands_byte bs i k h)
+    ∙ ap (λ t. pick t (Some (token (h_bin k) (i + 1))) None) (lt-ltb _ _ few)
 
 pub head-stands : (bs : List ℕ) (i : ℕ) (h : Head) → a_head h ≡ true → Stands bs i (head_spelled h) → head_at bs i ≡ Some (token h (i + length (head_spelled h)))
 unfolding a_head head_spelled
 head-stands bs i (h_num n) fits s =
-    first_kind bs i 0 (eight n) s ∙ num-stands bs (i + 1) n (ltb-true n limit fits) (after_kind bs i 0 (eight n) s)
+    first_kind bs i 0 (eight n) s ∙ num-stands bs (i + 1) n (ltb-true _ _ fits) (after_kind bs i 0 (eight n) s)
     ∙ ap (λ j. Some (token (h_num n) j)) (omega (arith, length-eight n))
 head-stands bs i (h_var x) fits s = first_kind bs i 1 (with_length x) s ∙ named_stands h_var bs (i + 1) x fits (after_kind bs i 1 (with_length x) s) ∙ ap (λ j. Some (token (h_var x) j)) (omega arith)
 head-stands bs i (h_bin k) fits s =
-    first_kind bs i 2 (k ∷ []) s ∙ bin-stands bs (i + 1) k (ltb-true k 6 fits) (after_kind bs i 2 (k ∷ []) s) ∙ ap (λ j. Some (token (h_bin k) j)) (omega arith)
+    first_kind bs i 2 (k ∷ []) s ∙ bin-stands bs (i + 1) k (ltb-true _ _ fits) (after_kind bs i 2 (k ∷ []) s) ∙ ap (λ j. Some (token (h_bin k) j)) (omega arith)
 head-stands bs i (h_call x k) fits s =
     first_kind bs i 3 (with_length x ++ k ∷ []) s
-    ∙ call-stands bs (i + 1) x k (and_parts (a_name x) (leb k 16) fits).0 (leb-true _ _ (and_parts (a_name x) (leb k 16) fits).1) (after_kind bs i 3 (with_length x ++ k ∷ []) s)
+    ∙ call-stands bs (i + 1) x k (and_parts _ _ fits).0 (leb-true _ _ (and_parts _ _ fits).1) (after_kind bs i 3 (with_length x ++ k ∷ []) s)
     ∙ ap (λ j. Some (token (h_call x k) j)) (omega arith)
 head-stands bs i (h_bind x) fits s = first_kind bs i 4 (with_length x) s ∙ named_stands h_bind bs (i + 1) x fits (after_kind bs i 4 (with_length x) s) ∙ ap (λ j. Some (token (h_bind x) j)) (omega arith)
 head-stands bs i h_choice fits s = first_kind bs i 5 [] s
@@ -181,7 +163,7 @@ num-there bs i t bytes e =
 var-there : (bs : List ℕ) (i : ℕ) (t : Token) → all_bytes bs ≡ true → named_at h_var bs i ≡ Some t → RestThere 1 bs i t
 unfolding a_head head_spelled
 var-there bs i t bytes e =
-    let got = found_some (name_end bs i) (λ j. Some (token (h_var (between (i + 8) j bs)) j)) t e in
+    let got = found_some _ _ _ e in
     let n = name_there bs i got.0 bytes got.1 in
     let is : token (h_var (between (i + 8) got.0 bs)) got.0 ≡ t = cc got.2 in
     subst (RestThere 1 bs i) is (record { rest = with_length (between (i + 8) got.0 bs); spelled = refl; fits = n.fits; stands = n.stands; end = n.end })
@@ -189,7 +171,7 @@ var-there bs i t bytes e =
 bind-there : (bs : List ℕ) (i : ℕ) (t : Token) → all_bytes bs ≡ true → named_at h_bind bs i ≡ Some t → RestThere 4 bs i t
 unfolding a_head head_spelled
 bind-there bs i t bytes e =
-    let got = found_some (name_end bs i) (λ j. Some (token (h_bind (between (i + 8) j bs)) j)) t e in
+    let got = found_some _ _ _ e in
     let n = name_there bs i got.0 bytes got.1 in
     let is : token (h_bind (between (i + 8) got.0 bs)) got.0 ≡ t = cc got.2 in
     subst (RestThere 4 bs i) is (record { rest = with_length (between (i + 8) got.0 bs); spelled = refl; fits = n.fits; stands = n.stands; end = n.end })
@@ -197,8 +179,8 @@ bind-there bs i t bytes e =
 bin-there : (bs : List ℕ) (i : ℕ) (t : Token) → bin_at bs i ≡ Some t → RestThere 2 bs i t
 unfolding a_head head_spelled
 bin-there bs i t e =
-    let kept = pick_some (ltb i (length bs) && ltb (get_or bs i 0) 6) (token (h_bin (get_or bs i 0)) (i + 1)) t e in
-    let both = and_parts (ltb i (length bs)) (ltb (get_or bs i 0) 6) kept.0 in
+    let kept = pick_some _ _ _ e in
+    let both = and_parts _ _ kept.0 in
     subst (RestThere 2 bs i) kept.1
     (record { rest = get_or bs i 0 ∷ []; spelled = refl; fits = both.1; stands = byte_stands bs i (ltb-true _ _ both.0); end = refl })
 
@@ -210,7 +192,7 @@ call-there bs i t bytes e =
     let x = between (i + 8) j bs in
     let n = name_there bs i j bytes got.1 in
     let kept = pick_some (ltb j (length bs) && leb (get_or bs j 0) 16) (token (h_call x (get_or bs j 0)) (j + 1)) t got.2 in
-    let both = and_parts (ltb j (length bs)) (leb (get_or bs j 0) 16) kept.0 in
+    let both = and_parts _ _ kept.0 in
     subst (RestThere 3 bs i) kept.1
     (record {
       rest = with_length x ++ get_or bs j 0 ∷ [];
@@ -226,7 +208,7 @@ pub either : {A R : Type 0} (k n : ℕ) (this rest : Option A) (a : A) → (k �
 either {A} {R} k n this rest a yes-it no-it e = go (eqb k n) refl e
   where
     go : (t : Bool) → eqb k n ≡ t → pick t this rest ≡ Some a → R
-    go true h e = yes-it (eqb-true k n h) e
+    go true h e = yes-it (eqb-true _ _ h) e
     go false h e = no-it e
 
 pub head-there : (bs : List ℕ) (i : ℕ) (t : Token) → all_bytes bs ≡ true → head_at bs i ≡ Some t → HeadThere bs i t
@@ -239,14 +221,14 @@ head-there bs i t bytes e =
     (either k 4 _ _ t (λ is e. with_kind 4 bs i t here is (bind-there bs (i + 1) t bytes e))
     (either k 5 _ _ t (λ is e. with_kind 5 bs i t here is (alone 5 h_choice refl refl e))
     (either k 6 _ _ t (λ is e. with_kind 6 bs i t here is (alone 6 h_tell refl refl e))
-    (λ e. let z : ◌≡◌ {A = ℕ} 0 1 = cc in absurd (omega arith))))))))
+    (λ e. absurd cc)))))))
     (pick-found (ltb i (length bs)) (kind_at k bs (i + 1)) t e).1
   where
     k : ℕ
     k = get_or bs i 0
 
     here : i < length bs
-    here = ltb-true i (length bs) (pick-found (ltb i (length bs)) (kind_at (get_or bs i 0) bs (i + 1)) t e).0
+    here = ltb-true _ _ (pick-found _ _ _ e).0
 
     alone : (n : ℕ) (h : Head) → head_spelled h ≡ n ∷ [] → a_head h ≡ true → Some (token h (i + 1)) ≡ Some t → RestThere n bs (i + 1) t
     alone n h p q e =

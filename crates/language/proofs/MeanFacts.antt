@@ -1,11 +1,11 @@
 -- When two programs mean the same: if they run alike at every depth, and so if their functions differ only in their own names; and then
 -- whatever their mains come to is the same.
 -- Assumes nothing.
-use Rattle.std.proofs.Common.{◌≡◌, ℕ, ◌+◌, ◌≤◌, true, false, ltb, List, [], sym, refl, ap, ◌∙◌, arith}
+use Rattle.std.proofs.Common.{◌≡◌, ℕ, ◌+◌, ◌≤◌, true, false, ltb, List, sym, refl, ap, ◌∙◌, arith}
 use Rattle.language.specs.Basics.{every, each}
 use Rattle.language.specs.Bytes.{Name}
 use Rattle.language.specs.Expr.{limit, Program, main}
-use Rattle.language.specs.Meaning.{fun_of, cames, eval, apply}
+use Rattle.language.specs.Meaning.{apply}
 use Rattle.language.specs.Equivalence.{is_deep, AsDeep, MeanSame}
 use Rattle.language.proofs.BareRuns.{bare_fun, apply-bare}
 use Rattle.language.proofs.Depth.{under_same, called-under, eval_up}
@@ -37,9 +37,7 @@ mean_trans p q r h k = (as_deep_on p q r h.0 k.0, as_deep_on r q p k.1 h.1)
 
 -- what a function came to, it comes to however deep it may go
 pub apply_deeper : (n m : ℕ) (p : Program) (f : Name) (vs : List ℕ) → n ≤ m → is_deep (apply n p f vs) ≡ false → apply m p f vs ≡ apply n p f vs
-apply_deeper n m p f vs h ends =
-    under_same (apply n p f vs) (apply m p f vs)
-    (called-under (λ cs e. eval n p cs e) (λ cs e. eval m p cs e) (λ cs e. eval_up n m p cs e h) (fun_of p f) (cames vs []) (cames vs []) refl) ends
+apply_deeper n m p f vs h ends = grind (arith, under_same, called-under, eval_up)
 
 -- mains of programs that mean the same come to the same, whenever both come to something
 pub mean_apply : (p q : Program) (n m : ℕ) (vs : List ℕ) → every (λ v. ltb v limit) vs ≡ true → MeanSame p q → is_deep (apply n p main vs) ≡ false →

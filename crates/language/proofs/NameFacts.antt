@@ -1,23 +1,21 @@
 -- Names that are the same, and which names a row has. Assumes nothing.
-use Rattle.std.proofs.Common.{◌≡◌, Bool, true, false, not, ◌&&◌, eqb, List, [], ◌∷◌, ◌++◌, sym, refl, ap, ◌∙◌, ap₂, eq-eqb, eqb-true}
+use Rattle.std.proofs.Common.{rules, arith, ◌≡◌, Bool, true, false, not, ◌&&◌, List, [], ◌∷◌, ◌++◌, sym, refl, ap, ◌∙◌}
+use Rattle.std.specs.Bool.{Decides}
 use borrow.Author.Tests.{clash}
-use Rattle.std.proofs.lemmas.Bool.{and_parts, and_from}
+use Rattle.std.proofs.lemmas.Bool.{and_parts}
 use Rattle.language.specs.Basics.{pick, or, every, same}
 use Rattle.language.specs.Bytes.{Name}
 use Rattle.language.specs.Names.{has, joined, less}
 
-pub same_refl : (x : Name) → same x x ≡ true
+same_decides : (x y : Name) → Decides (same x y) (x ≡ y)
 unfolding same
-same_refl [] = refl
-same_refl (b ∷ bs) = and_from _ _ (eq-eqb b b refl) (same_refl bs)
+same_decides = search rules
+
+pub same_refl : (x : Name) → same x x ≡ true
+same_refl x = (same_decides x x).1 refl
 
 pub same_eq : (x y : Name) → same x y ≡ true → x ≡ y
-unfolding same
-same_eq [] [] h = refl
-same_eq [] (y ∷ ys) h = absurd (clash h)
-same_eq (x ∷ xs) [] h = absurd (clash h)
-same_eq (x ∷ xs) (y ∷ ys) h =
-    ap₂ ◌∷◌ (eqb-true x y (and_parts (eqb x y) (same xs ys) h).0) (same_eq xs ys (and_parts (eqb x y) (same xs ys) h).1)
+same_eq x y = (same_decides x y).0
 
 pub same_sym : (x y : Name) → same x y ≡ same y x
 same_sym x y = go (same x y) (same y x) refl refl
@@ -26,11 +24,7 @@ same_sym x y = go (same x y) (same y x) refl refl
     go true true p q = refl
     go false false p q = refl
     go true false p q = absurd (clash (sym q ∙ ap (λ z. same z x) (sym (same_eq x y p)) ∙ same_refl x))
-    go false true p q = absurd (clash (sym p ∙ ap (λ z. same z y) (sym (same_eq y x q)) ∙ same_refl y))
-
-pub or_assoc : (a b c : Bool) → or (or a b) c ≡ or a (or b c)
-or_assoc true b c = refl
-or_assoc false b c = refl
+    go false true p q = grind (arith, same_eq)
 
 pub or_false : (a : Bool) → or a false ≡ a
 or_false true = refl
@@ -58,50 +52,31 @@ not_or false b = refl
 
 pub has-append : (xs ys : List Name) (x : Name) → has (xs ++ ys) x ≡ or (has xs x) (has ys x)
 has-append [] ys x = refl
-has-append (z ∷ zs) ys x = ap (or (same x z)) (has-append zs ys x) ∙ sym (or_assoc (same x z) (has zs x) (has ys x))
+has-append (z ∷ zs) ys x = grind (arith, has-append zs ys x)
 
 -- a name that is put in only if it is not there yet
 pub has_put : (xs : List Name) (y x : Name) → has (pick (has xs y) xs (xs ++ y ∷ [])) x ≡ or (has xs x) (same x y)
 has_put xs y x = go (has xs y) (same x y) refl refl
   where
     go : (t s : Bool) → has xs y ≡ t → same x y ≡ s → has (pick t xs (xs ++ y ∷ [])) x ≡ or (has xs x) s
-    go true true h k = ap (has xs) (same_eq x y k) ∙ h ∙ sym (ap (λ b. or b true) (ap (has xs) (same_eq x y k) ∙ h))
+    go true true h k = grind (arith, same_eq)
     go true false h k = sym (or_false (has xs x))
-    go false s h k = has-append xs (y ∷ []) x ∙ ap (or (has xs x)) (or_false (same x y) ∙ k)
+    go false s h k = grind (arith, has-append)
 
 pub has-joined : (xs ys : List Name) (x : Name) → has (joined xs ys) x ≡ or (has xs x) (has ys x)
 unfolding joined
 has-joined xs [] x = sym (or_false (has xs x))
-has-joined xs (y ∷ ys) x =
-    has-joined (pick (has xs y) xs (xs ++ y ∷ [])) ys x ∙ ap (λ b. or b (has ys x)) (has_put xs y x) ∙ or_assoc (has xs x) (same x y) (has ys x)
+has-joined xs (y ∷ ys) x = grind (arith, has_put, has-joined (pick (has xs y) xs (xs ++ y ∷ [])) ys x)
 
 pub has-less : (y : Name) (xs : List Name) (x : Name) → has (less y xs) x ≡ (not (same y x) && has xs x)
-has-less y [] x = go (same y x)
-  where
-    go : (t : Bool) → false ≡ (not t && false)
-    go true = refl
-    go false = refl
-has-less y (z ∷ zs) x = go (same y z) refl (has-less y zs x)
-  where
-    go : (t : Bool) → same y z ≡ t → has (less y zs) x ≡ (not (same y x) && has zs x) →
-        has (pick (not t) (z ∷ less y zs) (less y zs)) x ≡ (not (same y x) && or (same x z) (has zs x))
-    go true h ih = ih ∙ over (same y x) refl
-      where
-        over : (t : Bool) → same y x ≡ t → (not t && has zs x) ≡ (not t && or (same x z) (has zs x))
-        over true k = refl
-        over false k = ap (λ b. or b (has zs x)) (sym (ap (same x) (sym (same_eq y z h)) ∙ same_sym x y ∙ k))
-    go false h ih = ap (or (same x z)) ih ∙ over (same y x) (same x z) refl refl
-      where
-        over : (t s : Bool) → same y x ≡ t → same x z ≡ s → or s (not t && has zs x) ≡ (not t && or s (has zs x))
-        over true true k j = absurd (clash (sym h ∙ ap (λ v. same v z) (same_eq y x k) ∙ j))
-        over true false k j = refl
-        over false s k j = refl
+has-less y [] x = grind arith
+has-less y (z ∷ zs) x = grind (arith, same_eq, has-less y zs x)
 
 -- names of which xs has each
 pub every-has : (xs ys : List Name) → every (has xs) ys ≡ true → (y : Name) → has ys y ≡ true → has xs y ≡ true
 every-has xs [] h y k = absurd (clash k)
-every-has xs (z ∷ zs) h y k = go (same y z) refl k (every-has xs zs (and_parts (has xs z) (every (has xs) zs) h).1 y)
+every-has xs (z ∷ zs) h y k = go (same y z) refl k (every-has xs zs (and_parts _ _ h).1 y)
   where
     go : (t : Bool) → same y z ≡ t → or t (has zs y) ≡ true → (has zs y ≡ true → has xs y ≡ true) → has xs y ≡ true
-    go true e k ih = ap (has xs) (same_eq y z e) ∙ (and_parts (has xs z) (every (has xs) zs) h).0
+    go true e k ih = ap (has xs) (same_eq y z e) ∙ (and_parts _ _ h).0
     go false e k ih = ih k

@@ -1,8 +1,8 @@
 -- How many binds lie between a name and the one that gives it: within a row, behind one, and the bounds of it. Assumes nothing.
-use Rattle.std.proofs.Common.{◌≡◌, ℕ, suc, ◌+◌, ◌<◌, ◌≤◌, Bool, true, false, List, [], ◌∷◌, ◌++◌, length, sym, refl, ap, ◌∙◌, arith}
+use Rattle.std.proofs.Common.{◌≡◌, ℕ, suc, ◌+◌, ◌<◌, ◌≤◌, true, false, List, [], ◌∷◌, ◌++◌, length, ap, ◌∙◌, arith}
 use mathlib.Core.List.{nil≢cons}
 use borrow.Author.Tests.{clash}
-use Rattle.language.specs.Basics.{pick, or, same}
+use Rattle.language.specs.Basics.{pick}
 use Rattle.language.specs.Bytes.{Name}
 use Rattle.language.specs.Names.{has}
 use Rattle.language.specs.Bare.{how_near}
@@ -12,37 +12,24 @@ use Rattle.language.proofs.NameFacts.{same_sym, or_left_false, or_right_false}
 pub near_below : (xs : List Name) (x : Name) (k j : ℕ) (js : List ℕ) → how_near xs x k ≡ j ∷ js → j < k + length xs
 unfolding how_near
 near_below [] x k j js h = absurd (nil≢cons h)
-near_below (y ∷ ys) x k j js h = go (same y x) h (near_below ys x (suc k) j js)
-  where
-    go : (t : Bool) → pick t (k ∷ []) (how_near ys x (suc k)) ≡ j ∷ js → (how_near ys x (suc k) ≡ j ∷ js → j < suc k + length ys) → j < k + suc (length ys)
-    go true e ih = let z : k ≡ j = cc in omega arith
-    go false e ih = omega (arith, ih e)
+near_below (y ∷ ys) x k j js h = grind (arith, near_below ys x (suc k) j js)
 
 -- a name that one of zs is, whatever comes behind
 pub near_in : (zs ys us : List Name) (x : Name) (k : ℕ) → has zs x ≡ true → how_near (zs ++ ys) x k ≡ how_near (zs ++ us) x k
 unfolding how_near
 near_in [] ys us x k h = absurd (clash h)
-near_in (z ∷ zs) ys us x k h = go (same z x) refl (near_in zs ys us x (suc k))
-  where
-    go : (t : Bool) → same z x ≡ t → (has zs x ≡ true → how_near (zs ++ ys) x (suc k) ≡ how_near (zs ++ us) x (suc k)) →
-        pick t (k ∷ []) (how_near (zs ++ ys) x (suc k)) ≡ pick t (k ∷ []) (how_near (zs ++ us) x (suc k))
-    go true e ih = refl
-    go false e ih = ih (ap (λ t. or t (has zs x)) (sym (same_sym x z ∙ e)) ∙ h)
+near_in (z ∷ zs) ys us x k h = grind (arith, same_sym, near_in zs ys us x (suc k))
 
 -- a name that none of zs is
 pub near_out : (zs ys : List Name) (x : Name) (k : ℕ) → has zs x ≡ false → how_near (zs ++ ys) x k ≡ how_near ys x (k + length zs)
 unfolding how_near
 near_out [] ys x k h = ap (how_near ys x) (omega arith)
 near_out (z ∷ zs) ys x k h =
-    ap (λ t. pick t (k ∷ []) (how_near (zs ++ ys) x (suc k))) (same_sym z x ∙ or_left_false (same x z) (has zs x) h)
-    ∙ near_out zs ys x (suc k) (or_right_false (same x z) (has zs x) h) ∙ ap (how_near ys x) (omega arith)
+    ap (λ t. pick t (k ∷ []) (how_near (zs ++ ys) x (suc k))) (same_sym z x ∙ or_left_false _ _ h)
+    ∙ near_out zs ys x (suc k) (or_right_false _ _ h) ∙ ap (how_near ys x) (omega arith)
 
 -- no bind is nearer than where the count begins
 pub near_low : (ys : List Name) (x : Name) (k j : ℕ) (js : List ℕ) → how_near ys x k ≡ j ∷ js → k ≤ j
 unfolding how_near
 near_low [] x k j js h = absurd (nil≢cons h)
-near_low (y ∷ ys) x k j js h = go (same y x) h (near_low ys x (suc k) j js)
-  where
-    go : (t : Bool) → pick t (k ∷ []) (how_near ys x (suc k)) ≡ j ∷ js → (how_near ys x (suc k) ≡ j ∷ js → suc k ≤ j) → k ≤ j
-    go true e ih = let z : k ≡ j = cc in omega arith
-    go false e ih = omega (arith, ih e)
+near_low (y ∷ ys) x k j js h = grind (arith, near_low ys x (suc k) j js)

@@ -1,53 +1,21 @@
 -- What stands at a place is one thing: no two names, expressions, functions or programs that fit are spelled alike. Assumes nothing.
-use Rattle.std.proofs.Common.{◌≡◌, ℕ, zero, suc, ◌+◌, ◌-◌, ◌<◌, Bool, true, ◌&&◌, leb, List, [], ◌∷◌, ◌++◌, length, get_or, take, drop, Some, sym, refl, ap, ◌∙◌, subst, ap₂, arith, leb-true}
+use Rattle.std.proofs.Common.{◌≡◌, ℕ, zero, suc, ◌+◌, ◌-◌, ◌<◌, Bool, true, List, [], ◌∷◌, ◌++◌, length, get_or, take, drop, Some, sym, refl, ap, ◌∙◌, subst, ap₂, arith, leb-true}
 use Rattle.std.specs.List.{between}
 use Rattle.std.proofs.lemmas.List.{append-nil, length-append, take_at, drop_at}
 use Rattle.std.proofs.lemmas.Bool.{and_parts, and_from}
 use Rattle.language.specs.Basics.{every, flat}
 use Rattle.language.specs.Bytes.{Name, eight, with_length}
-use Rattle.language.specs.Expr.{Expr, Exprs, num, var, bin, call, bind, choice, tell, no_exprs, expr_and, exprs_in, parts, Fun, Program}
+use Rattle.language.specs.Expr.{Expr, num, parts, Fun, Program}
 use Rattle.language.specs.Spelling.{expr_spelled, fun_spelled, program_spelled}
 use Rattle.language.specs.Fits.{a_name, an_expr, a_fun, a_program}
-use Rattle.language.specs.Heads.{Head, h_num, h_var, h_bin, h_call, h_bind, h_choice, h_tell, head_of, arity, head_spelled, a_head}
+use Rattle.language.specs.Heads.{head_of, head_spelled, a_head}
 use Rattle.language.specs.Reading.{Token}
 use Rattle.language.proofs.ListFacts.{every_append}
 use Rattle.language.proofs.StandsFacts.{Stands, stands-first, stands-second, stands_in, length-eight, number_stands}
 use Rattle.language.proofs.HeadFacts.{name-stands, name_bytes, head-stands}
-use Rattle.language.proofs.NodeFacts.{parts-arity, head-fits, head-long}
+use Rattle.language.proofs.NodeFacts.{parts-arity, head-fits, node_same, head-long}
 use Rattle.language.proofs.ExprFacts.{first-stands, rest-stands}
 use Rattle.language.proofs.ProgramFacts.{params_spelled, some_params, fun-parts, whole-stands}
-
--- an expression again from its head and its parts
-as_values : List Expr → Exprs
-as_values [] = no_exprs
-as_values (e ∷ es) = expr_and e (as_values es)
-
-values_again : (es : Exprs) → as_values (exprs_in es) ≡ es
-unfolding as_values
-values_again no_exprs = refl
-values_again (expr_and e es) = ap (expr_and e) (values_again es)
-
-built : Head → List Expr → Expr
-built (h_num n) es = num n
-built (h_var x) es = var x
-built (h_bin k) es = bin k (get_or es 0 (num 0)) (get_or es 1 (num 0))
-built (h_call f k) es = call f (as_values es)
-built (h_bind x) es = bind x (get_or es 0 (num 0)) (get_or es 1 (num 0))
-built h_choice es = choice (get_or es 0 (num 0)) (get_or es 1 (num 0)) (get_or es 2 (num 0))
-built h_tell es = tell (get_or es 0 (num 0))
-
-built_again : (e : Expr) → built (head_of e) (parts e) ≡ e
-unfolding built head_of parts
-built_again (num n) = refl
-built_again (var x) = refl
-built_again (bin k a b) = refl
-built_again (call f es) = ap (call f) (values_again es)
-built_again (bind x a b) = refl
-built_again (choice c a b) = refl
-built_again (tell a) = refl
-
-node_same : (a b : Expr) → head_of a ≡ head_of b → parts a ≡ parts b → a ≡ b
-node_same a b h p = sym (built_again a) ∙ ap₂ built h p ∙ built_again b
 
 -- two that fit and stand at one place are one
 abbrev pub Once : {A : Type 0} → List ℕ → (A → List ℕ) → (A → Bool) → Type 0
@@ -74,16 +42,16 @@ SameExprs n bs =
 module _ (n : ℕ) (bs : List ℕ) (again : SameExprs n bs) (i : ℕ) (e d : Expr) (es ds : List Expr) (h : every an_expr (e ∷ es) ≡ true) (k : every an_expr (d ∷ ds) ≡ true)
     (l : length es ≡ length ds) (s : Stands bs i (flat expr_spelled (e ∷ es))) (t : Stands bs i (flat expr_spelled (d ∷ ds))) (m : length bs - i < suc n) where
   fit_e : (an_expr e ≡ true) × (every an_expr es ≡ true)
-  fit_e = and_parts (an_expr e) (every an_expr es) h
+  fit_e = and_parts _ _ h
 
   fit_d : (an_expr d ≡ true) × (every an_expr ds ≡ true)
-  fit_d = and_parts (an_expr d) (every an_expr ds) k
+  fit_d = and_parts _ _ k
 
   heads : head_of e ≡ head_of d
   heads = head_once bs i (head_of e) (head_of d) (head-fits e fit_e.0).0 (head-fits d fit_d.0).0 (first-stands bs i e es s) (first-stands bs i d ds t)
 
   long : length (parts d) ≡ length (parts e)
-  long = parts-arity d ∙ ap arity (sym heads) ∙ sym (parts-arity e)
+  long = grind (arith, parts-arity, heads)
 
   others : parts e ++ es ≡ parts d ++ ds
   others =
@@ -112,7 +80,7 @@ exprs_once (suc n) bs i (e ∷ es) (d ∷ ds) h k l s t m = all_same n bs (exprs
 pub expr_once : (bs : List ℕ) → Once bs expr_spelled an_expr
 expr_once bs i a b h k s t =
     ap (λ es. get_or es 0 (num 0))
-    (exprs_once (suc (length bs)) bs i (a ∷ []) (b ∷ []) (and_from (an_expr a) true h refl) (and_from (an_expr b) true k refl) refl
+    (exprs_once (suc (length bs)) bs i (a ∷ []) (b ∷ []) (and_from _ _ h refl) (and_from _ _ k refl) refl
     (subst (Stands bs i) (sym (append-nil (expr_spelled a))) s) (subst (Stands bs i) (sym (append-nil (expr_spelled b))) t) (omega arith))
 
 -- one thing and then another; so many things
@@ -128,8 +96,8 @@ module _ {A : Type 0} (bs : List ℕ) (f : A → List ℕ) (ok : A → Bool) (on
   list_once i [] (y ∷ ys) l h k s t = absurd (omega arith)
   list_once i (x ∷ xs) [] l h k s t = absurd (omega arith)
   list_once i (x ∷ xs) (y ∷ ys) l h k s t =
-      let p = and_parts (ok x) (every ok xs) h in
-      let q = and_parts (ok y) (every ok ys) k in
+      let p = and_parts _ _ h in
+      let q = and_parts _ _ k in
       let first = once i x y p.0 q.0 (stands-first bs i (f x) (flat f xs) s) (stands-first bs i (f y) (flat f ys) t) in
       ap₂ ◌∷◌ first
       (list_once (i + length (f x)) xs ys (omega arith) p.1 q.1 (stands-second bs i (f x) (flat f xs) s)
@@ -145,16 +113,16 @@ counted_once bs f ok once i xs ys l m h k s t =
 
 params_once : (bs : List ℕ) → Once bs params_spelled some_params
 params_once bs i xs ys h k s t =
-    let p = and_parts (leb (length xs) 16) (every a_name xs) h in
-    let q = and_parts (leb (length ys) 16) (every a_name ys) k in
-    counted_once bs with_length a_name (name_once bs) i xs ys (omega (arith, leb-true (length xs) 16 p.0)) (omega (arith, leb-true (length ys) 16 q.0)) p.1 q.1 s t
+    let p = and_parts _ _ h in
+    let q = and_parts _ _ k in
+    counted_once bs with_length a_name (name_once bs) i xs ys (omega (arith, leb-true _ _ p.0)) (omega (arith, leb-true _ _ q.0)) p.1 q.1 s t
 
 pub fun_once : (bs : List ℕ) → Once bs fun_spelled a_fun
 fun_once bs i f g h k s t =
-    let p = and_parts (a_name f.name && some_params f.params) (an_expr f.body) h in
-    let p1 = and_parts (a_name f.name) (some_params f.params) p.0 in
-    let q = and_parts (a_name g.name && some_params g.params) (an_expr g.body) k in
-    let q1 = and_parts (a_name g.name) (some_params g.params) q.0 in
+    let p = and_parts _ _ h in
+    let p1 = and_parts _ _ p.0 in
+    let q = and_parts _ _ k in
+    let q1 = and_parts _ _ q.0 in
     let sf = subst (Stands bs i) (fun-parts f) s in
     let sg = subst (Stands bs i) (fun-parts g) t in
     let names = name_once bs i f.name g.name p1.0 q1.0 (stands-first bs i (with_length f.name) (params_spelled f.params ++ expr_spelled f.body) sf)
@@ -171,9 +139,9 @@ fun_once bs i f g h k s t =
 -- no two programs that fit are spelled alike
 pub program_once : (p q : Program) → a_program p ≡ true → a_program q ≡ true → program_spelled p ≡ program_spelled q → p ≡ q
 program_once p q h k e =
-    let a = and_parts (leb (length p) 1024 && every a_fun p) (leb (length (program_spelled p)) 65536) h in
-    let a1 = and_parts (leb (length p) 1024) (every a_fun p) a.0 in
-    let b = and_parts (leb (length q) 1024 && every a_fun q) (leb (length (program_spelled q)) 65536) k in
-    let b1 = and_parts (leb (length q) 1024) (every a_fun q) b.0 in
-    counted_once (program_spelled p) fun_spelled a_fun (fun_once (program_spelled p)) 0 p q (omega (arith, leb-true (length p) 1024 a1.0)) (omega (arith, leb-true (length q) 1024 b1.0)) a1.1 b1.1
+    let a = and_parts _ _ h in
+    let a1 = and_parts _ _ a.0 in
+    let b = and_parts _ _ k in
+    let b1 = and_parts _ _ b.0 in
+    counted_once (program_spelled p) fun_spelled a_fun (fun_once (program_spelled p)) 0 p q (omega (arith, leb-true _ _ a1.0)) (omega (arith, leb-true _ _ b1.0)) a1.1 b1.1
     (whole-stands (program_spelled p)) (subst (λ r. Stands (program_spelled p) 0 r) e (whole-stands (program_spelled p)))

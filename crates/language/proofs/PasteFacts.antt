@@ -1,5 +1,5 @@
 -- Parts of a row after a write to another part, by what stands at each place. Assumes nothing.
-use Rattle.std.proofs.Common.{◌≡◌, ℕ, ◌+◌, ◌-◌, ◌<◌, ◌≤◌, List, ◌++◌, length, get_or, take, drop, sym, ap, ◌∙◌, arith}
+use Rattle.std.proofs.Common.{◌≡◌, ℕ, ◌+◌, ◌-◌, ◌<◌, ◌≤◌, List, ◌++◌, length, get_or, take, drop, sym, ◌∙◌, arith}
 use lib.Seq.{paste}
 use Rattle.std.proofs.lemmas.List.{ext_get_or, length-take-le, length-drop, length-append, get_or-take, get_or-drop, get_or_append_left, get_or-append_right}
 
@@ -11,10 +11,10 @@ part_same xs ys i j c h l e =
     (λ k b. get_or-take c (drop i xs) k 0 (omega (arith, long-x)) ∙ get_or-drop i xs k 0 ∙ e k (omega (arith, long-x)) ∙ sym (get_or-take c (drop j ys) k 0 (omega (arith, long-x)) ∙ get_or-drop j ys k 0))
   where
     long-x : length (take c (drop i xs)) ≡ c
-    long-x = length-take-le c (drop i xs) (omega (arith, length-drop i xs))
+    long-x = grind (arith, length-take-le, length-drop)
 
     long-y : length (take c (drop j ys)) ≡ c
-    long-y = length-take-le c (drop j ys) (omega (arith, length-drop j ys))
+    long-y = grind (arith, length-take-le, length-drop)
 
 module _ (d s : List ℕ) (a n : ℕ) (room : a + n ≤ length d) (enough : n ≤ length s) where
   long-a : length (take a d) ≡ a
@@ -27,15 +27,10 @@ module _ (d s : List ℕ) (a n : ℕ) (room : a + n ≤ length d) (enough : n �
   long-front = omega (arith, length-append (take a d) (take n s), long-a, long_n)
 
   pub paste_low : (k : ℕ) → k < a → get_or (paste d a s n) k 0 ≡ get_or d k 0
-  paste_low k h =
-      get_or_append_left (take a d ++ take n s) (drop (a + n) d) 0 k (omega (arith, long-front)) ∙ get_or_append_left (take a d) (take n s) 0 k (omega (arith, long-a)) ∙ get_or-take a d k 0 h
+  paste_low k h = grind (arith, get_or_append_left, long-front, long-a, get_or-take)
 
   pub paste_mid : (k : ℕ) → a ≤ k → k < a + n → get_or (paste d a s n) k 0 ≡ get_or s (k - a) 0
-  paste_mid k h l =
-      get_or_append_left (take a d ++ take n s) (drop (a + n) d) 0 k (omega (arith, long-front)) ∙ get_or-append_right (take a d) (take n s) a k 0 long-a h
-      ∙ get_or-take n s (k - a) 0 (omega arith)
+  paste_mid k h l = grind (arith, get_or_append_left, long-front, get_or-append_right, long-a, get_or-take)
 
   pub paste_high : (k : ℕ) → a + n ≤ k → get_or (paste d a s n) k 0 ≡ get_or d k 0
-  paste_high k h =
-      get_or-append_right (take a d ++ take n s) (drop (a + n) d) (a + n) k 0 long-front h ∙ get_or-drop (a + n) d (k - (a + n)) 0
-      ∙ ap (λ j. get_or d j 0) (let z : a + n + (k - (a + n)) ≡ k = omega arith in z)
+  paste_high k h = grind (arith, get_or-append_right, long-front, get_or-drop)

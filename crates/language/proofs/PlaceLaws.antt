@@ -1,64 +1,22 @@
 -- Where what stands at a place begins, in the bytes of an expression, and those bytes with something else put there. By induction on the place:
 -- a part begins after its head and the parts before it, and something else put for it keeps the head and the other parts. Assumes nothing.
-use Rattle.std.proofs.Common.{◌≡◌, ℕ, zero, suc, ◌+◌, ◌<◌, ◌≤◌, Bool, true, false, eqb, ltb, List, [], ◌∷◌, ◌++◌, length, take, drop, Some, None, sym, refl, ap, ◌∙◌, subst, ap₂, add-zero, arith, le-ltb, lt-ltb}
+use Rattle.std.proofs.Common.{◌≡◌, ℕ, zero, suc, ◌+◌, ◌<◌, ◌≤◌, true, ltb, List, [], ◌∷◌, ◌++◌, length, take, Some, None, sym, refl, ap, ◌∙◌, subst, ap₂, add-zero, arith, le-ltb, lt-ltb}
 use mathlib.Core.List.{nil≢cons}
 use Rattle.std.proofs.lemmas.List.{append_assoc, append-nil, length-append, length-take-le}
 use Rattle.language.specs.Basics.{pick, flat}
-use Rattle.language.specs.Expr.{Expr, num, var, bin, call, bind, choice, tell, Exprs, no_exprs, expr_and, exprs_in, parts}
-use Rattle.language.specs.Places.{nth_expr, in_some, at_place, put_nth, with_part, put_some, put_at}
+use Rattle.language.specs.Expr.{Expr, parts}
+use Rattle.language.specs.Places.{nth_expr, in_some, at_place, with_part, put_at}
 use Rattle.language.specs.Spelling.{expr_spelled}
 use Rattle.language.specs.Fits.{an_expr}
-use Rattle.language.specs.Heads.{Head, h_call, head_of, arity, head_spelled}
+use Rattle.language.specs.Heads.{head_of, arity, head_spelled}
 use Rattle.language.specs.Reading.{found, Token, token, head_at, ends, place_at}
-use Rattle.language.proofs.ListFacts.{every_take, flat_append}
+use Rattle.language.proofs.ListFacts.{every_take}
 use Rattle.language.proofs.StandsFacts.{Stands, stands-first, stands-second}
 use Rattle.language.proofs.HeadFacts.{head-stands}
 use Rattle.language.proofs.NodeFacts.{spelled_node, parts-arity, head-fits}
 use Rattle.language.proofs.ExprFacts.{ends_stand}
-use Rattle.language.proofs.PlaceFacts.{part_same, put_same}
-use Rattle.language.proofs.PlaceFits.{nth_count, nth_fit, at_fit}
-
--- something else put for a part: the head and the other parts are as they were
-pick-head : (t : Bool) (a b : Expr) (h : Head) → head_of a ≡ h → head_of b ≡ h → head_of (pick t a b) ≡ h
-pick-head true a b h p q = p
-pick-head false a b h p q = q
-
-part-head : (e : Expr) (k : ℕ) (d : Expr) → head_of (with_part e k d) ≡ head_of e
-unfolding head_of with_part
-part-head (num n) k d = refl
-part-head (var x) k d = refl
-part-head (bin o a b) k d = pick-head (eqb k 0) (bin o d b) (bin o a d) _ refl refl
-part-head (call f es) k d = ap (h_call f) (nth_count es k d)
-part-head (bind x a b) k d = pick-head (eqb k 0) (bind x d b) (bind x a d) _ refl refl
-part-head (choice c a b) k d =
-    pick-head (eqb k 0) (choice d a b) (pick (eqb k 1) (choice c d b) (choice c a d)) _ refl (pick-head (eqb k 1) (choice c d b) (choice c a d) _ refl refl)
-part-head (tell a) k d = refl
-
-nth_put : (es : Exprs) (k : ℕ) (c : Expr) (cs : List Expr) (d : Expr) → nth_expr (exprs_in es) k ≡ c ∷ cs →
-    exprs_in (put_nth es k d) ≡ take k (exprs_in es) ++ d ∷ drop (suc k) (exprs_in es)
-unfolding nth_expr put_nth
-nth_put no_exprs k c cs d h = absurd (nil≢cons h)
-nth_put (expr_and a es) zero c cs d h = refl
-nth_put (expr_and a es) (suc k) c cs d h = ap (◌∷◌ a) (nth_put es k c cs d h)
-
-part_put : (e : Expr) (k : ℕ) (c : Expr) (cs : List Expr) (d : Expr) → nth_expr (parts e) k ≡ c ∷ cs →
-    parts (with_part e k d) ≡ take k (parts e) ++ d ∷ drop (suc k) (parts e)
-unfolding nth_expr parts with_part
-part_put (num n) k c cs d h = absurd (nil≢cons h)
-part_put (var x) k c cs d h = absurd (nil≢cons h)
-part_put (bin o a b) zero c cs d h = refl
-part_put (bin o a b) (suc zero) c cs d h = refl
-part_put (bin o a b) (suc (suc k)) c cs d h = absurd (nil≢cons h)
-part_put (call f es) k c cs d h = nth_put es k c cs d h
-part_put (bind x a b) zero c cs d h = refl
-part_put (bind x a b) (suc zero) c cs d h = refl
-part_put (bind x a b) (suc (suc k)) c cs d h = absurd (nil≢cons h)
-part_put (choice e a b) zero c cs d h = refl
-part_put (choice e a b) (suc zero) c cs d h = refl
-part_put (choice e a b) (suc (suc zero)) c cs d h = refl
-part_put (choice e a b) (suc (suc (suc k))) c cs d h = absurd (nil≢cons h)
-part_put (tell a) zero c cs d h = refl
-part_put (tell a) (suc k) c cs d h = absurd (nil≢cons h)
+use Rattle.language.proofs.PlaceFacts.{before_part, after_part, put_part_spelled, part-spelled, within, put_same}
+use Rattle.language.proofs.PlaceFits.{nth_fit, at_fit}
 
 -- there are more parts than k where there is a kth, and else no more
 nth_below : (es : List Expr) (k : ℕ) (c : Expr) (cs : List Expr) → nth_expr es k ≡ c ∷ cs → k < length es
@@ -73,37 +31,16 @@ nth_past [] k h = omega arith
 nth_past (e ∷ es) zero h = absurd (nil≢cons (sym h))
 nth_past (e ∷ es) (suc k) h = omega (arith, nth_past es k h)
 
--- the bytes of an expression before its kth part, and after it
-abbrev before_part : Expr → ℕ → List ℕ
-before_part e k = head_spelled (head_of e) ++ flat expr_spelled (take k (parts e))
-
-abbrev after_part : Expr → ℕ → List ℕ
-after_part e k = flat expr_spelled (drop (suc k) (parts e))
-
-module _ (e : Expr) (k : ℕ) (c : Expr) (cs : List Expr) (h : nth_expr (parts e) k ≡ c ∷ cs) where
-  put_part_spelled : (d : Expr) → expr_spelled (with_part e k d) ≡ before_part e k ++ (expr_spelled d ++ after_part e k)
-  put_part_spelled d =
-      spelled_node (with_part e k d)
-      ∙ ap₂ (λ x ps. head_spelled x ++ flat expr_spelled ps) (part-head e k d) (part_put e k c cs d h)
-      ∙ ap (λ r. head_spelled (head_of e) ++ r) (flat_append expr_spelled (take k (parts e)) (d ∷ drop (suc k) (parts e)))
-      ∙ sym (append_assoc (head_spelled (head_of e)) (flat expr_spelled (take k (parts e))) (expr_spelled d ++ after_part e k))
-
-  part-spelled : expr_spelled e ≡ before_part e k ++ (expr_spelled c ++ after_part e k)
-  part-spelled = ap expr_spelled (sym (part_same e k c cs h)) ∙ put_part_spelled c
-
 -- one number of a place is followed to the part it says
 place-turn : (bs : List ℕ) (k : ℕ) (ks : List ℕ) (i : ℕ) (t : Token) → head_at bs i ≡ Some t →
     place_at bs (k ∷ ks) i ≡ pick (ltb k (arity t.head)) (found (ends k (length bs) bs t.end) (λ j. place_at bs ks j)) None
 unfolding place_at
-place-turn bs k ks i t e =
-    ap (λ o. found o (λ t. pick (ltb k (arity t.head)) (found (ends k (length bs) bs t.end) (λ j. place_at bs ks j)) None)) e
+place-turn bs k ks i t e = grind arith
 
 -- the head of an expression that stands there is read
 pub head_read : (bs : List ℕ) (i : ℕ) (e : Expr) → an_expr e ≡ true → Stands bs i (expr_spelled e) →
     head_at bs i ≡ Some (token (head_of e) (i + length (head_spelled (head_of e))))
-head_read bs i e fit s =
-    head-stands bs i (head_of e) (head-fits e fit).0
-    (stands-first bs i (head_spelled (head_of e)) (flat expr_spelled (parts e)) (subst (Stands bs i) (spelled_node e) s))
+head_read bs i e fit s = grind (arith, head-stands, head-fits, stands-first, spelled_node)
 
 module _ (bs : List ℕ) (i : ℕ) (e : Expr) (fit : an_expr e ≡ true) (s : Stands bs i (expr_spelled e)) (k : ℕ) (ks : List ℕ) where
   place_past : nth_expr (parts e) k ≡ [] → place_at bs (k ∷ ks) i ≡ None
@@ -122,9 +59,7 @@ module _ (bs : List ℕ) (i : ℕ) (e : Expr) (fit : an_expr e ≡ true) (s : St
         (stands-second bs i (before_part e k) (expr_spelled c ++ after_part e k) (subst (Stands bs i) (part-spelled e k c cs h) s))
 
     before_stands : Stands bs (i + length (head_spelled (head_of e))) (flat expr_spelled (take k (parts e)))
-    before_stands =
-        stands-second bs i (head_spelled (head_of e)) (flat expr_spelled (take k (parts e)))
-        (stands-first bs i (before_part e k) (expr_spelled c ++ after_part e k) (subst (Stands bs i) (part-spelled e k c cs h) s))
+    before_stands = grind (arith, stands-second, stands-first, before_part, after_part, part-spelled)
 
     before-skipped : ends k (length bs) bs (i + length (head_spelled (head_of e))) ≡ Some (i + length (before_part e k))
     before-skipped =
@@ -136,7 +71,7 @@ module _ (bs : List ℕ) (i : ℕ) (e : Expr) (fit : an_expr e ≡ true) (s : St
     place-part =
         place-turn bs k ks i (token (head_of e) (i + length (head_spelled (head_of e)))) (head_read bs i e fit s)
         ∙ ap₂ (λ t o. pick t (found o (λ j. place_at bs ks j)) None)
-        (lt-ltb k (arity (head_of e)) (omega (arith, nth_below (parts e) k c cs h, parts-arity e))) before-skipped
+        (lt-ltb _ _ (omega (arith, nth_below (parts e) k c cs h, parts-arity e))) before-skipped
 
 -- where nothing stands, none is found
 pub place_none : (bs ks : List ℕ) (i : ℕ) (e : Expr) → an_expr e ≡ true → Stands bs i (expr_spelled e) → at_place e ks ≡ [] → place_at bs ks i ≡ None
@@ -149,8 +84,7 @@ place_none bs (k ∷ ks) i e fit s h = go (nth_expr (parts e) k) refl h (λ c. p
         place_at bs ks (i + length (before_part e k)) ≡ None) →
         place_at bs (k ∷ ks) i ≡ None
     go [] p h ih = place_past bs i e fit s k ks p
-    go (c ∷ cs) p h ih =
-        place-part bs i e fit s k ks c cs p ∙ ih c (part-fits bs i e fit s k ks c cs p) (part-stands bs i e fit s k ks c cs p) h
+    go (c ∷ cs) p h ih = grind (arith, place-part, part-fits, part-stands)
 
 -- c stands at a place of e, which stands at i: where it begins, what is around it, and that this stays where something else is put there
 pub record Placed (bs : List ℕ) (i : ℕ) (e : Expr) (ks : List ℕ) (c : Expr) : Type 0 where
@@ -184,29 +118,18 @@ around a b x c d = simp append_assoc
 module _ (bs : List ℕ) (i : ℕ) (e : Expr) (fit : an_expr e ≡ true) (s : Stands bs i (expr_spelled e)) (k : ℕ) (ks : List ℕ) (a : Expr) (as₁ : List Expr)
     (h : nth_expr (parts e) k ≡ a ∷ as₁) (c : Expr) (r : Placed bs (i + length (before_part e k)) a ks c) where
   begins_within : place_at bs (k ∷ ks) i ≡ Some (i + length (before_part e k ++ r.before))
-  begins_within =
-      place-part bs i e fit s k ks a as₁ h ∙ r.at_is ∙ ap Some (omega (arith, length-append (before_part e k) r.before))
+  begins_within = grind (arith, place-part, length-append, before_part)
 
   put_within : (d : Expr) → expr_spelled (with_part e k (put_at a ks d)) ≡ (before_part e k ++ r.before) ++ (expr_spelled d ++ (r.after ++ after_part e k))
-  put_within d =
-      put_part_spelled e k a as₁ h (put_at a ks d)
-      ∙ ap (λ x. before_part e k ++ (x ++ after_part e k)) (r.put d)
-      ∙ around (before_part e k) r.before (expr_spelled d) r.after (after_part e k)
+  put_within d = grind (arith, put_part_spelled, around)
 
 pub place_some : (bs ks : List ℕ) (i : ℕ) (e c : Expr) (cs : List Expr) → an_expr e ≡ true → Stands bs i (expr_spelled e) → at_place e ks ≡ c ∷ cs →
     Placed bs i e ks c
 unfolding at_place put_at place_at
 place_some bs [] i e c cs fit s h =
     placed bs i e [] c cs fit s h [] [] (ap Some (sym (add-zero i))) (λ d. sym (append-nil (expr_spelled d)))
-place_some bs (k ∷ ks) i e c cs fit s h = go (nth_expr (parts e) k) refl h (λ a. place_some bs ks (i + length (before_part e k)) a c cs)
-  where
-    go : (as₁ : List Expr) → nth_expr (parts e) k ≡ as₁ → in_some as₁ (λ a. at_place a ks) ≡ c ∷ cs →
-        ((a : Expr) → an_expr a ≡ true → Stands bs (i + length (before_part e k)) (expr_spelled a) → at_place a ks ≡ c ∷ cs →
-        Placed bs (i + length (before_part e k)) a ks c) →
-        Placed bs i e (k ∷ ks) c
-    go [] p q ih = absurd (nil≢cons q)
-    go (a ∷ as₁) p q ih =
-        let r = ih a (part-fits bs i e fit s k ks a as₁ p) (part-stands bs i e fit s k ks a as₁ p) q in
-        placed bs i e (k ∷ ks) c cs fit s h (before_part e k ++ r.before) (r.after ++ after_part e k)
-        (begins_within bs i e fit s k ks a as₁ p c r)
-        (λ d. ap (λ l. expr_spelled (put_some e k l (λ b. put_at b ks d))) p ∙ put_within bs i e fit s k ks a as₁ p c r d)
+place_some bs (k ∷ ks) i e c cs fit s h =
+    let r = within e k ks c cs h in
+    let q = place_some bs ks (i + length (before_part e k)) r.part c cs (part-fits bs i e fit s k ks r.part r.others r.is_part) (part-stands bs i e fit s k ks r.part r.others r.is_part) r.stands in
+    placed bs i e (k ∷ ks) c cs fit s h (before_part e k ++ q.before) (q.after ++ after_part e k) (begins_within bs i e fit s k ks r.part r.others r.is_part c q)
+    (λ d. ap expr_spelled (r.put d) ∙ put_within bs i e fit s k ks r.part r.others r.is_part c q d)

@@ -1,5 +1,5 @@
 -- Names, functions and programs are read where they stand, and what is read stands there. Assumes nothing.
-use Rattle.std.proofs.Common.{◌≡◌, ℕ, zero, suc, ◌+◌, ◌<◌, ◌≤◌, Bool, true, ◌&&◌, eqb, leb, List, [], ◌∷◌, ◌++◌, length, drop, Some, None, Option, sym, refl, ap, ◌∙◌, subst, add-zero, arith, eq-eqb, eqb-true, le-leb, leb-true}
+use Rattle.std.proofs.Common.{◌≡◌, ℕ, zero, suc, ◌+◌, ◌<◌, ◌≤◌, Bool, true, ◌&&◌, eqb, leb, List, [], ◌∷◌, ◌++◌, length, drop, Some, None, Option, sym, refl, ap, ◌∙◌, subst, add-zero, arith, eq-eqb, eqb-true, leb-true}
 use borrow.Author.Tests.{clash}
 use Rattle.std.specs.List.{between}
 use Rattle.std.proofs.lemmas.List.{append_assoc, append-nil, length-append, drop_all}
@@ -13,6 +13,7 @@ use Rattle.language.specs.Reading.{found, times, number_at, name_end, expr_end, 
 use Rattle.language.proofs.ReadingFacts.{times-done, times_more, found_some, pick-found}
 use Rattle.language.proofs.StandsFacts.{Stands, stands-first, stands-second, stands_join, length-eight, number_stands, number_there}
 use Rattle.language.proofs.HeadFacts.{length_with, name-stands, name_there}
+use Rattle.language.proofs.ProgramFits.{program_fits}
 use Rattle.language.proofs.ExprFacts.{ends_stand, ExprsThere, ends_there}
 
 -- something that fits stands there, and ends there
@@ -35,7 +36,7 @@ module _ {A : Type 0} (bs : List ℕ) (step : ℕ → Option ℕ) (spell : A →
   times_read : (n i : ℕ) (as₁ : List A) → every ok as₁ ≡ true → length as₁ ≡ n → Stands bs i (flat spell as₁) → times n step i ≡ Some (i + length (flat spell as₁))
   times_read n i [] fit l s = times-done step i n (sym l) ∙ ap Some (sym (add-zero i))
   times_read n i (a ∷ as₁) fit l s =
-      let q = and_parts (ok a) (every ok as₁) fit in
+      let q = and_parts _ _ fit in
       times_more step i (i + length (spell a)) n (length as₁) (sym l) (r.read i a q.0 (stands-first bs i (spell a) (flat spell as₁) s))
       ∙ times_read (length as₁) (i + length (spell a)) as₁ q.1 refl (stands-second bs i (spell a) (flat spell as₁) s)
       ∙ ap Some (omega (arith, length-append (spell a) (flat spell as₁)))
@@ -49,7 +50,7 @@ module _ {A : Type 0} (bs : List ℕ) (step : ℕ → Option ℕ) (spell : A →
       let got = found_some (step i) (λ k. times n step k) j e in
       let one = r.was i got.0 got.1 in
       let rest = times_was n got.0 j got.2 in
-      let q = and_parts (every ok rest.it) (eqb (length rest.it) n) rest.fits in
+      let q = and_parts _ _ rest.fits in
       record {
         it = one.it ∷ rest.it;
         fits = and_from _ _ (and_from (ok one.it) (every ok rest.it) one.fits q.0) (eq-eqb _ _ (ap suc (eqb-true _ _ q.1)));
@@ -60,7 +61,7 @@ module _ {A : Type 0} (bs : List ℕ) (step : ℕ → Option ℕ) (spell : A →
   pub times_reads : (n : ℕ) → Reads bs (times n step) (flat spell) (all_of ok n)
   times_reads n =
       record {
-        read = λ i as₁ h s. let q = and_parts (every ok as₁) (eqb (length as₁) n) h in times_read n i as₁ q.0 (eqb-true _ _ q.1) s;
+        read = λ i as₁ h s. let q = and_parts _ _ h in times_read n i as₁ q.0 (eqb-true _ _ q.1) s;
         was = times_was n;
       }
 
@@ -70,7 +71,7 @@ module _ {A B : Type 0} (bs : List ℕ) (f g : ℕ → Option ℕ) (spell_a : A 
   both_read : (i : ℕ) (p : A × B) → (ok_a p.0 && ok_b p.1) ≡ true → Stands bs i (spell_a p.0 ++ spell_b p.1) →
       found (f i) g ≡ Some (i + length (spell_a p.0 ++ spell_b p.1))
   both_read i p fit h =
-      let q = and_parts (ok_a p.0) (ok_b p.1) fit in
+      let q = and_parts _ _ fit in
       ap (λ o. found o g) (r.read i p.0 q.0 (stands-first bs i (spell_a p.0) (spell_b p.1) h))
       ∙ s.read (i + length (spell_a p.0)) p.1 q.1 (stands-second bs i (spell_a p.0) (spell_b p.1) h)
       ∙ ap Some (omega (arith, length-append (spell_a p.0) (spell_b p.1)))
@@ -104,14 +105,14 @@ module _ (bs : List ℕ) (bytes : all_bytes bs ≡ true) where
       go : (es : List Expr) → length es ≡ 1 → every an_expr es ≡ true → Stands bs i (flat expr_spelled es) → j ≡ i + length (flat expr_spelled es) → There bs expr_spelled an_expr i j
       go [] l f s e = absurd (omega arith)
       go (x ∷ []) l f s e =
-          record { it = x; fits = (and_parts (an_expr x) true f).0; stands = subst (Stands bs i) (append-nil (expr_spelled x)) s; end = e ∙ ap (λ r. i + length r) (append-nil (expr_spelled x)) }
+          record { it = x; fits = (and_parts _ _ f).0; stands = subst (Stands bs i) (append-nil (expr_spelled x)) s; end = e ∙ ap (λ r. i + length r) (append-nil (expr_spelled x)) }
       go (x ∷ y ∷ es) l f s e = absurd (omega arith)
 
   pub expr_reads : Reads bs (expr_end bs) expr_spelled an_expr
   expr_reads =
       record {
         read = λ i e h s.
-            ends_stand (length bs) bs i (e ∷ []) (and_from (an_expr e) true h refl) (subst (Stands bs i) (sym (append-nil (expr_spelled e))) s) (omega arith)
+            ends_stand (length bs) bs i (e ∷ []) (and_from _ _ h refl) (subst (Stands bs i) (sym (append-nil (expr_spelled e))) s) (omega arith)
             ∙ ap (λ r. Some (i + length r)) (append-nil (expr_spelled e));
         was = λ i j e. one_expr i j (ends_there (length bs) 1 bs i j bytes e);
       }
@@ -128,7 +129,7 @@ module _ (bs : List ℕ) (bytes : all_bytes bs ≡ true) where
 
   params_read : (i : ℕ) (xs : List Name) → some_params xs ≡ true → Stands bs i (params_spelled xs) → params_end bs i ≡ Some (i + length (params_spelled xs))
   params_read i xs fit s =
-      let q = and_parts (leb (length xs) 16) (every a_name xs) fit in
+      let q = and_parts _ _ fit in
       let few : length xs ≤ 16 = leb-true _ _ q.0 in
       ap (λ o. found o (λ k. pick (leb k 16) (times k (name_end bs) (i + 8)) None))
       (number_stands bs i (length xs) (omega arith) (stands-first bs i (eight (length xs)) (flat with_length xs) s))
@@ -144,7 +145,7 @@ module _ (bs : List ℕ) (bytes : all_bytes bs ≡ true) where
       let few = pick-found (leb k 16) (times k (name_end bs) (i + 8)) j got.2 in
       let n = number_there bs i k bytes got.1 in
       let r = (names_read k).was (i + 8) j few.1 in
-      let q = and_parts (every a_name r.it) (eqb (length r.it) k) r.fits in
+      let q = and_parts _ _ r.fits in
       let is : length r.it ≡ k = eqb-true _ _ q.1 in
       record {
         it = r.it;
@@ -162,7 +163,7 @@ pub fun-parts : (f : Fun) → fun_spelled f ≡ with_length f.name ++ (params_sp
 fun-parts f = simp append_assoc
 
 pub fun-long : (f : Fun) → 0 < length (fun_spelled f)
-fun-long f = omega (arith, ap length (fun-parts f), length-append (with_length f.name) (params_spelled f.params ++ expr_spelled f.body), length_with f.name)
+fun-long f = grind (arith, length-append, length_with)
 
 module _ (bs : List ℕ) (bytes : all_bytes bs ≡ true) where
   three_read : Reads bs (fun_end bs) (λ (p : Name × (List Name × Expr)). with_length p.0 ++ (params_spelled p.1.0 ++ expr_spelled p.1.1))
@@ -182,8 +183,8 @@ module _ (bs : List ℕ) (bytes : all_bytes bs ≡ true) where
   fun_was i j e =
       let r = three_read.was i j e in
       let f : Fun = record { name = r.it.0; params = r.it.1.0; body = r.it.1.1 } in
-      let q = and_parts (a_name r.it.0) (some_params r.it.1.0 && an_expr r.it.1.1) r.fits in
-      let p = and_parts (some_params r.it.1.0) (an_expr r.it.1.1) q.1 in
+      let q = and_parts _ _ r.fits in
+      let p = and_parts _ _ q.1 in
       record {
         it = f;
         fits = and_from _ _ (and_from (a_name r.it.0) (some_params r.it.1.0) q.0 p.0) p.1;
@@ -199,11 +200,10 @@ module _ (bs : List ℕ) (bytes : all_bytes bs ≡ true) where
 
 -- what stands at the beginning and goes to the end is all
 pub all_there : (bs p : List ℕ) → Stands bs 0 p → length p ≡ length bs → bs ≡ p
-all_there bs p s l =
-    s ∙ ap (λ r. p ++ r) (drop_all (0 + length p) bs (omega arith)) ∙ append-nil p
+all_there bs p s l = grind (arith, drop_all, append-nil)
 
 pub whole-stands : (bs : List ℕ) → Stands bs 0 bs
-whole-stands bs = sym (append-nil bs) ∙ ap (λ l. bs ++ l) (sym (drop_all (0 + length bs) bs (omega arith)))
+whole-stands bs = grind (arith, append-nil, drop_all)
 
 pub split_stands : (a p b : List ℕ) → Stands (a ++ (p ++ b)) (length a) p
 split_stands a p b =
@@ -215,14 +215,14 @@ pub program_was : (bs : List ℕ) → all_bytes bs ≡ true → is_program bs �
 program_was bs bytes e = go (number_at bs 0) refl q.1
   where
     q : (leb (length bs) 65536 ≡ true) × (funs_fill bs (number_at bs 0) ≡ true)
-    q = and_parts (leb (length bs) 65536) (funs_fill bs (number_at bs 0)) e
+    q = and_parts _ _ e
 
     full : (n : ℕ) (o : Option ℕ) → number_at bs 0 ≡ Some n → leb n 1024 ≡ true → times n (fun_end bs) 8 ≡ o → ends_at o (length bs) ≡ true →
         (p : Program) × (program_spelled p ≡ bs) × (a_program p ≡ true)
     full n None h few t z = absurd (clash z)
     full n (Some j) h few t z =
         let r = (funs_read bs bytes n).was 8 j t in
-        let fit = and_parts (every a_fun r.it) (eqb (length r.it) n) r.fits in
+        let fit = and_parts _ _ r.fits in
         let is : length r.it ≡ n = eqb-true _ _ fit.1 in
         let end : j ≡ length bs = eqb-true _ _ z in
         let long : length (program_spelled r.it) ≡ length bs = omega (arith, r.end, length-eight (length r.it), length-append (eight (length r.it)) (flat fun_spelled r.it)) in
@@ -238,26 +238,19 @@ program_was bs bytes e = go (number_at bs 0) refl q.1
     go : (o : Option ℕ) → number_at bs 0 ≡ o → funs_fill bs o ≡ true → (p : Program) × (program_spelled p ≡ bs) × (a_program p ≡ true)
     go None h z = absurd (clash z)
     go (Some n) h z =
-        let r = and_parts (leb n 1024) (ends_at (times n (fun_end bs) 8) (length bs)) z in
+        let r = and_parts _ _ z in
         full n (times n (fun_end bs) 8) h r.0 refl r.1
 
 -- the spelling of a program that fits: how long it is, its count, and its functions after it
 module _ (p : Program) (fit : a_program p ≡ true) where
-  pub program_parts : (length p ≤ 1024) × (every a_fun p ≡ true) × (length (program_spelled p) ≤ 65536)
-  program_parts =
-      let q = and_parts (leb (length p) 1024 && every a_fun p) (leb (length (program_spelled p)) 65536) fit in
-      let r = and_parts (leb (length p) 1024) (every a_fun p) q.0 in
-      (leb-true _ _ r.0, r.1, leb-true _ _ q.1)
-
   whole : Stands (program_spelled p) 0 (program_spelled p)
   whole = whole-stands (program_spelled p)
 
   pub program_short : (8 ≤ length (program_spelled p)) × (length (program_spelled p) ≤ 65536)
-  program_short = (omega (arith, length-append (eight (length p)) (flat fun_spelled p), length-eight (length p)), program_parts.2)
+  program_short = grind (arith, length-append, length-eight)
 
   pub program_number : number_at (program_spelled p) 0 ≡ Some (length p)
-  program_number =
-      number_stands (program_spelled p) 0 (length p) (omega (arith, program_parts.0)) (stands-first (program_spelled p) 0 (eight (length p)) (flat fun_spelled p) whole)
+  program_number = grind (arith, number_stands, program_fits, stands-first, whole)
 
   pub program_funs : Stands (program_spelled p) 8 (flat fun_spelled p)
   program_funs =
@@ -265,18 +258,4 @@ module _ (p : Program) (fit : a_program p ≡ true) where
       (stands-second (program_spelled p) 0 (eight (length p)) (flat fun_spelled p) whole)
 
 pub program_read : (p : Program) → all_bytes (program_spelled p) ≡ true → a_program p ≡ true → is_program (program_spelled p) ≡ true
-program_read p bytes fit =
-    and_from _ _ (le-leb _ _ (program_parts p fit).2)
-    (ap (funs_fill bs) (program_number p fit)
-    ∙ and_from _ _ (le-leb _ _ (program_parts p fit).0) (ap (λ o. ends_at o (length bs)) read ∙ eq-eqb _ _ ends))
-  where
-    bs : List ℕ
-    bs = program_spelled p
-
-    read : times (length p) (fun_end (program_spelled p)) 8 ≡ Some (8 + length (flat fun_spelled p))
-    read =
-        (funs_read (program_spelled p) bytes (length p)).read 8 p (and_from _ _ (program_parts p fit).1 (eq-eqb (length p) (length p) refl))
-        (program_funs p fit)
-
-    ends : 8 + length (flat fun_spelled p) ≡ length (program_spelled p)
-    ends = omega (arith, length-eight (length p), length-append (eight (length p)) (flat fun_spelled p))
+program_read p bytes fit = grind (arith, program_fits, program_number, eq-eqb, funs_read, program_funs, length-eight, length-append)

@@ -3,7 +3,7 @@
 use Rattle.std.proofs.Common.{◌≡◌, ℕ, ◌+◌, true, List, ◌∷◌, ◌++◌, length, Some, ap, ◌∙◌, arith}
 use Rattle.std.proofs.lemmas.List.{append_assoc, length-append}
 use Rattle.language.specs.Basics.{pick, each, flat, same}
-use Rattle.language.specs.Bytes.{Name, eight, with_length}
+use Rattle.language.specs.Bytes.{Name, eight}
 use Rattle.language.specs.Expr.{Expr, Fun, Program}
 use Rattle.language.specs.Names.{distinct}
 use Rattle.language.specs.Places.{at_place, put_at}
@@ -58,16 +58,7 @@ module _ (p : Program) (fit : a_program p ≡ true) (x : Name) (f : Fun) (r : Fo
 
   at_before : body_from r.place.at f + length within.before ≡ length all-before
   unfolding all-before
-  at_before =
-      omega (
-        arith,
-        r.place.at_is,
-        length-eight (length p),
-        length-append (eight (length p)) (flat fun_spelled r.place.before ++ (fun_front f ++ within.before)),
-        length-append (flat fun_spelled r.place.before) (fun_front f ++ within.before),
-        length-append (fun_front f) within.before,
-        length-append (with_length f.name) (params_spelled f.params),
-      )
+  at_before = grind (arith, length-eight, length-append, fun_front, within, params_spelled)
 
   pub put_program : distinct (each (λ h. h.name) p) ≡ true → PutIn p r.place.at f ks c
   put_program apart =

@@ -56,7 +56,7 @@ unfolding then
 then_reach (came v ts) f G g r s = record { from = max r.from (s v).from; under = go }
   where
     go : (k : ℕ) → max r.from (s v).from ≤ k → Under (after_telling ts (f v)) (then (G k) (g k))
-    go k h = rw (r.under k (omega arith)) (after-under ts (f v) (g k v) ((s v).under k (omega arith)))
+    go k h = grind (arith, after-under)
 then_reach (wrong i ts) f G g r s = record { from = r.from; under = λ k h. rw (r.under k h) refl }
 then_reach deep f G g r s = reach_deep (λ m. then (G m) (g m))
 
@@ -69,7 +69,7 @@ pub and_reach : (c : Came) (f : ℕ → List ℕ → Cames) (G : ℕ → Came) (
 and_reach (came v ts) f G g r s = record { from = max r.from (s v ts).from; under = go }
   where
     go : (k : ℕ) → max r.from (s v ts).from ≤ k → Unders (f v ts) (and_cames (G k) (g k))
-    go k h = rw (r.under k (omega arith)) ((s v ts).under k (omega arith))
+    go k h = grind arith
 and_reach (wrong i ts) f G g r s = record { from = r.from; under = λ k h. rw (r.under k h) refl }
 and_reach deep f G g r s = record { from = 0; under = λ k h. tt }
 
@@ -107,7 +107,7 @@ called_reach n p q (f ∷ fs) (g ∷ gs) h (cames vs ts) C r =
         (λ m. pick t (after_telling ts (eval m q (binds g.params vs) g.body)) (wrong 3 ts))
     go true e =
         after_reach ts (eval n p (binds f.params vs) f.body) (λ m. eval m q (binds g.params vs) g.body)
-        (h.1 vs (eqb-true (length vs) (length f.params) e))
+        (h.1 vs (eqb-true _ _ e))
     go false e = still (wrong 3 ts)
 called_reach n p q (f ∷ fs) (g ∷ gs) h (wrongs i ts) C r = record { from = r.from; under = λ k l. rw (r.under k l) refl }
 called_reach n p q (f ∷ fs) (g ∷ gs) h deeps C r = reach_deep (λ m. called (λ cs e. eval m q cs e) (g ∷ gs) (C m))

@@ -45,7 +45,7 @@ both_spells r s f u v a b in-u in-v w =
 
 number_in_bytes : (k n acc : ℕ) (bs : List ℕ) → n < 256 ^ k → number_from_digits_after 256 acc (in_bytes k n bs) ≡ number_from_digits_after 256 (acc * 256 ^ k + n) bs
 unfolding in_bytes
-number_in_bytes zero n acc bs h = let e : acc ≡ acc * 1 + n = omega arith in ap (λ a. number_from_digits_after 256 a bs) e
+number_in_bytes zero n acc bs h = grind arith
 number_in_bytes (suc k) n acc bs h =
     number_in_bytes k (n / 256) acc (n % 256 ∷ bs) (omega (arith, pow-suc 256 k))
     ∙ ap (λ a. number_from_digits_after 256 a bs) (omega (arith, ap (λ m. acc * m) (pow-suc 256 k), mul_assoc acc (256 ^ k) 256))

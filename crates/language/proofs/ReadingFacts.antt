@@ -1,14 +1,14 @@
 -- What stands at a place in a row of bytes: one thing after another, and eight bytes as a number. Assumes nothing.
-use Rattle.std.proofs.Common.{◌≡◌, ℕ, zero, suc, ◌+◌, ◌-◌, ◌*◌, ◌<◌, ◌≤◌, Bool, true, false, leb, List, [], ◌∷◌, length, get_or, take, drop, Some, None, Option, refl, ap, ◌∙◌, ap₂, arith, le-leb}
+use Rattle.std.proofs.Common.{◌≡◌, ℕ, zero, suc, ◌+◌, ◌-◌, ◌*◌, ◌<◌, ◌≤◌, Bool, true, false, leb, List, [], ◌∷◌, length, get_or, take, drop, Some, None, Option, refl, ap, ◌∙◌, arith, le-leb}
 use borrow.Author.Tests.{lt-leb}
 use Rattle.language.specs.Basics.{pick}
 use Rattle.language.specs.Heads.{arity}
-use Rattle.language.specs.Reading.{number_at, Token, head_at, found, times, ends}
+use Rattle.language.specs.Reading.{Token, head_at, found, times, ends}
 use Rattle.std.proofs.lemmas.List.{drop_more}
 use Rattle.std.specs.Int.Digits.{number_from_digits}
 
 pub take_next : (bs : List ℕ) (i j n : ℕ) → i < length bs → i + 1 ≡ j → take (suc n) (drop i bs) ≡ get_or bs i 0 ∷ take n (drop j bs)
-take_next bs i j n h e = ap (take (suc n)) (drop_more bs i 0 h ∙ ap (λ k. get_or bs i 0 ∷ drop k bs) e)
+take_next bs i j n h e = grind (arith, drop_more)
 
 pub take-eight : (bs : List ℕ) (i : ℕ) → i + 8 ≤ length bs →
     take 8 (drop i bs) ≡ get_or bs i 0 ∷ get_or bs (i + 1) 0 ∷ get_or bs (i + 2) 0 ∷ get_or bs (i + 3) 0 ∷ get_or bs (i + 4) 0 ∷ get_or bs (i + 5) 0 ∷ get_or bs (i + 6) 0 ∷ get_or bs (i + 7) 0 ∷ []
@@ -24,13 +24,6 @@ take-eight bs i h = take_next bs i (i + 1) 7 (omega arith) (omega arith) ∙ ap 
 pub number_eight : (a b c d e f g h : ℕ) → number_from_digits 256 (a ∷ b ∷ c ∷ d ∷ e ∷ f ∷ g ∷ h ∷ []) ≡
     a * 72057594037927936 + b * 281474976710656 + c * 1099511627776 + d * 4294967296 + e * 16777216 + f * 65536 + g * 256 + h
 number_eight a b c d e f g h = omega arith
-
-pub number_read : (bs : List ℕ) (i : ℕ) → i + 8 ≤ length bs → number_at bs i ≡ Some
-    (get_or bs i 0 * 72057594037927936 + get_or bs (i + 1) 0 * 281474976710656 + get_or bs (i + 2) 0 * 1099511627776 + get_or bs (i + 3) 0 * 4294967296
-    + get_or bs (i + 4) 0 * 16777216 + get_or bs (i + 5) 0 * 65536 + get_or bs (i + 6) 0 * 256 + get_or bs (i + 7) 0)
-number_read bs i h =
-    ap (λ t. pick t (Some (number_from_digits 256 (take 8 (drop i bs)))) None) (le-leb _ _ h)
-    ∙ ap Some (ap (number_from_digits 256) (take-eight bs i h) ∙ number_eight _ _ _ _ _ _ _ _)
 
 -- one turn of reading the next expressions, by what the next head is
 pub ends-done : (bs : List ℕ) (i n f : ℕ) → n ≡ 0 → ends n f bs i ≡ Some i
@@ -52,7 +45,7 @@ ends-turn m g bs i = refl
 
 module _ (bs : List ℕ) (i n m f g : ℕ) (some : n ≡ suc m) (turns : f ≡ suc g) where
   one : (o : Option Token) → head_at bs i ≡ o → ends n f bs i ≡ found o (ends_after m g bs)
-  one o e = ap₂ (λ a b. ends a b bs i) some turns ∙ ends-turn m g bs i ∙ ap (λ t. found t (ends_after m g bs)) e
+  one o e = grind (arith, ends-turn)
 
   pub ends_none : head_at bs i ≡ None → ends n f bs i ≡ None
   ends_none e = one None e
@@ -77,17 +70,17 @@ times_none s i (suc n) h e = ap (λ o. found o (λ j. times n s j)) e
 
 pub times_more : (s : ℕ → Option ℕ) (i j n m : ℕ) → n ≡ suc m → s i ≡ Some j → times n s i ≡ times m s j
 unfolding times
-times_more s i j n m p e = ap (λ k. times k s i) p ∙ ap (λ o. found o (λ k. times m s k)) e
+times_more s i j n m p e = grind arith
 
 -- what was found came from something that was found, or from a test that held
 pub found_some : {A B : Type 0} (o : Option A) (f : A → Option B) (b : B) → found o f ≡ Some b → (a : A) × (o ≡ Some a) × (f a ≡ Some b)
-found_some None f b e = let z : ◌≡◌ {A = ℕ} 0 1 = cc in absurd (omega arith)
+found_some None f b e = absurd cc
 found_some (Some a) f b e = (a, refl, e)
 
 pub pick_some : {A : Type 0} (t : Bool) (a b : A) → pick t (Some a) None ≡ Some b → (t ≡ true) × (a ≡ b)
 pick_some true a b e = (refl, cc)
-pick_some false a b e = let z : ◌≡◌ {A = ℕ} 0 1 = cc in absurd (omega arith)
+pick_some false a b e = absurd cc
 
 pub pick-found : {A : Type 0} (t : Bool) (o : Option A) (b : A) → pick t o None ≡ Some b → (t ≡ true) × (o ≡ Some b)
 pick-found true o b e = (refl, e)
-pick-found false o b e = let z : ◌≡◌ {A = ℕ} 0 1 = cc in absurd (omega arith)
+pick-found false o b e = absurd cc

@@ -1,7 +1,8 @@
 -- Rows of bytes compared one byte after the other. Assumes nothing.
-use Rattle.std.proofs.Common.{◌≡◌, ℕ, ◌+◌, ◌-◌, ◌<◌, ◌≤◌, Bool, true, false, ◌&&◌, eqb, List, length, get_or, drop, sym, refl, ap, ◌∙◌, ap₂, arith, eq-eqb, ne_eqb}
+use Rattle.std.proofs.Common.{◌≡◌, ℕ, ◌+◌, ◌-◌, ◌<◌, ◌≤◌, Bool, true, false, ◌&&◌, eqb, List, length, get_or, drop, refl, ap, ap₂, arith}
 use Rattle.std.specs.List.{between}
-use Rattle.std.proofs.lemmas.List.{drop_more, drop_all, length-take-le, length-drop, get_or-take, get_or-drop}
+use Rattle.std.proofs.lemmas.List.{drop_more, drop_all}
+use Rattle.std.proofs.lemmas.List.Edits.{length-between, get_or-between}
 use Rattle.language.specs.Basics.{same}
 use Rattle.language.proofs.NameFacts.{same_eq}
 
@@ -18,10 +19,10 @@ module _ (xs ys : List ℕ) where
   same_turn k h l = ap₂ same (drop_more xs k 0 h) (drop_more ys k 0 l)
 
   pub same_more : (k : ℕ) → k < length xs → k < length ys → get_or xs k 0 ≡ get_or ys k 0 → same (drop k xs) (drop k ys) ≡ same (drop (k + 1) xs) (drop (k + 1) ys)
-  same_more k h l e = same_turn k h l ∙ ap (λ t. t && same (drop (k + 1) xs) (drop (k + 1) ys)) (eq-eqb _ _ e)
+  same_more k h l e = grind (arith, same_turn)
 
   pub same_not : (k : ℕ) → k < length xs → k < length ys → (get_or xs k 0 ≡ get_or ys k 0 → ⊥) → same (drop k xs) (drop k ys) ≡ false
-  same_not k h l e = same_turn k h l ∙ ap (λ t. t && same (drop (k + 1) xs) (drop (k + 1) ys)) (ne_eqb _ _ e)
+  same_not k h l e = grind (arith, same_turn)
 
   pub same_end : (k : ℕ) → length xs ≤ k → length ys ≤ k → same (drop k xs) (drop k ys) ≡ true
   unfolding same
@@ -29,28 +30,15 @@ module _ (xs ys : List ℕ) where
 
 -- parts of two rows
 module _ (a b : List ℕ) (i j k l : ℕ) (low : i ≤ j) (high : j ≤ length a) (low_b : k ≤ l) (high_b : l ≤ length b) where
-  long-a : length (between i j a) ≡ j - i
-  long-a = length-take-le (j - i) (drop i a) (omega (arith, length-drop i a))
-
-  long-b : length (between k l b) ≡ l - k
-  long-b = length-take-le (l - k) (drop k b) (omega (arith, length-drop k b))
-
-  byte_a : (n : ℕ) → n < j - i → get_or (between i j a) n 0 ≡ get_or a (i + n) 0
-  byte_a n h = get_or-take (j - i) (drop i a) n 0 h ∙ get_or-drop i a n 0
-
-  byte_b : (n : ℕ) → n < l - k → get_or (between k l b) n 0 ≡ get_or b (k + n) 0
-  byte_b n h = get_or-take (l - k) (drop k b) n 0 h ∙ get_or-drop k b n 0
-
   pub parts-long : (l - k ≡ j - i → ⊥) → same (between i j a) (between k l b) ≡ false
-  parts-long h = same-long (between i j a) (between k l b) (λ e. h (omega (arith, long-a, long-b)))
+  parts-long h = grind (arith, same-long, length-between)
 
   pub parts_more : (n : ℕ) → l - k ≡ j - i → n < j - i → get_or a (i + n) 0 ≡ get_or b (k + n) 0 →
       same (drop n (between i j a)) (drop n (between k l b)) ≡ same (drop (n + 1) (between i j a)) (drop (n + 1) (between k l b))
-  parts_more n e h p = same_more (between i j a) (between k l b) n (omega (arith, long-a)) (omega (arith, long-b)) (byte_a n h ∙ p ∙ sym (byte_b n (omega arith)))
+  parts_more n e h p = grind (arith, same_more, length-between, get_or-between)
 
   pub parts_not : (n : ℕ) → l - k ≡ j - i → n < j - i → (get_or a (i + n) 0 ≡ get_or b (k + n) 0 → ⊥) → same (drop n (between i j a)) (drop n (between k l b)) ≡ false
-  parts_not n e h p =
-      same_not (between i j a) (between k l b) n (omega (arith, long-a)) (omega (arith, long-b)) (λ q. p (sym (byte_a n h) ∙ q ∙ byte_b n (omega arith)))
+  parts_not n e h p = grind (arith, same_not, length-between, get_or-between)
 
   pub parts-end : (n : ℕ) → l - k ≡ j - i → j - i ≤ n → same (drop n (between i j a)) (drop n (between k l b)) ≡ true
-  parts-end n e h = same_end (between i j a) (between k l b) n (omega (arith, long-a)) (omega (arith, long-b))
+  parts-end n e h = grind (arith, same_end, length-between)

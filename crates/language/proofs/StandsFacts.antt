@@ -1,5 +1,5 @@
 -- What stands at a place in a row of bytes, one thing after another; and numbers as eight bytes, there and back. Assumes nothing.
-use Rattle.std.proofs.Common.{◌≡◌, ℕ, zero, suc, ◌+◌, ◌*◌, ◌<◌, ◌≤◌, Bool, true, false, ltb, leb, List, [], ◌∷◌, ◌++◌, length, get_or, take, drop, Some, None, sym, refl, ap, ◌∙◌, ap₂, add-zero, arith, ltb-true, le-leb, leb-true}
+use Rattle.std.proofs.Common.{◌≡◌, ℕ, zero, suc, ◌+◌, ◌<◌, ◌≤◌, Bool, true, false, leb, List, [], ◌∷◌, ◌++◌, length, get_or, take, drop, Some, None, sym, refl, ap, ◌∙◌, ap₂, add-zero, arith, ltb-true, le-leb, leb-true}
 use Rattle.std.specs.Int.Digits.{number_from_digits}
 use Rattle.std.proofs.lemmas.List.{append_assoc, length-append, length-drop, drop-drop, drop_at, take_at, drop_more, take-append-drop, get_or-drop}
 use Rattle.std.proofs.lemmas.Bool.{and_parts}
@@ -22,13 +22,13 @@ module _ (bs : List ℕ) (i : ℕ) (p q : List ℕ) where
       ∙ ap (λ k. q ++ drop k bs) ends_both
 
   pub stands-first : Stands bs i (p ++ q) → Stands bs i p
-  stands-first h = h ∙ append_assoc p q _ ∙ ap (λ r. p ++ r) (ap (λ k. q ++ drop k bs) ends_both ∙ sym (after_first h))
+  stands-first h = grind (arith, append_assoc, ends_both, after_first)
 
   pub stands-second : Stands bs i (p ++ q) → Stands bs (i + length p) q
   stands-second h = after_first h
 
   pub stands_join : Stands bs i p → Stands bs (i + length p) q → Stands bs i (p ++ q)
-  stands_join h k = h ∙ ap (λ r. p ++ r) (k ∙ ap (λ j. q ++ drop j bs) (sym ends_both)) ∙ sym (append_assoc p q _)
+  stands_join h k = grind (arith, ends_both, append_assoc)
 
 pub stands_in : (bs : List ℕ) (i : ℕ) (p : List ℕ) → 0 < length p → Stands bs i p → i + length p ≤ length bs
 stands_in bs i p h k = omega (arith, ap length k, length-drop i bs, length-append p (drop (i + length p) bs), length-drop (i + length p) bs)
@@ -57,21 +57,15 @@ pub eight_number : (n : ℕ) → n < 18446744073709551616 → number_from_digits
 unfolding in_bytes
 eight_number n h = number_eight _ _ _ _ _ _ _ _ ∙ omega arith
 
-last_byte : (k v b : ℕ) (bs : List ℕ) → b < 256 → in_bytes (suc k) (v * 256 + b) bs ≡ in_bytes k v (b ∷ bs)
-unfolding in_bytes
-last_byte k v b bs h = ap₂ (λ q r. in_bytes k q (r ∷ bs)) (omega arith) (omega arith)
-
 pub number_eight_back : (a b c d e f g h : ℕ) → a < 256 → b < 256 → c < 256 → d < 256 → e < 256 → f < 256 → g < 256 → h < 256 →
     eight (number_from_digits 256 (a ∷ b ∷ c ∷ d ∷ e ∷ f ∷ g ∷ h ∷ [])) ≡ a ∷ b ∷ c ∷ d ∷ e ∷ f ∷ g ∷ h ∷ []
 unfolding in_bytes
-number_eight_back a b c d e f g h p q r s t u v w =
-    last_byte 7 _ h _ w ∙ last_byte 6 _ g _ v ∙ last_byte 5 _ f _ u ∙ last_byte 4 _ e _ t ∙ last_byte 3 _ d _ s ∙ last_byte 2 _ c _ r
-    ∙ last_byte 1 _ b _ q ∙ last_byte 0 0 a _ p
+number_eight_back a b c d e f g h p q r s t u v w = grind arith
 
 pub bytes_below : (bs : List ℕ) → all_bytes bs ≡ true → (i : ℕ) → get_or bs i 0 < 256
 bytes_below [] h i = omega arith
-bytes_below (b ∷ bs) h zero = ltb-true b 256 (and_parts (ltb b 256) (all_bytes bs) h).0
-bytes_below (b ∷ bs) h (suc i) = bytes_below bs (and_parts (ltb b 256) (all_bytes bs) h).1 i
+bytes_below (b ∷ bs) h zero = ltb-true _ _ (and_parts _ _ h).0
+bytes_below (b ∷ bs) h (suc i) = bytes_below bs (and_parts _ _ h).1 i
 
 pub number_stands : (bs : List ℕ) (i n : ℕ) → n < 18446744073709551616 → Stands bs i (eight n) → number_at bs i ≡ Some n
 unfolding in_bytes
@@ -91,28 +85,14 @@ pub number_there : (bs : List ℕ) (i n : ℕ) → all_bytes bs ≡ true → num
 number_there bs i n bytes e = go (leb (i + 8) (length bs)) refl e
   where
     eights : i + 8 ≤ length bs → eight (number_from_digits 256 (take 8 (drop i bs))) ≡ take 8 (drop i bs)
-    eights h =
-        ap (λ l. eight (number_from_digits 256 l)) (take-eight bs i h)
-        ∙ number_eight_back _ _ _ _ _ _ _ _ (bytes_below bs bytes _) (bytes_below bs bytes _) (bytes_below bs bytes _) (bytes_below bs bytes _) (bytes_below bs bytes _)
-        (bytes_below bs bytes _) (bytes_below bs bytes _) (bytes_below bs bytes _)
-        ∙ sym (take-eight bs i h)
+    eights h = grind (arith, take-eight, number_eight_back, bytes_below)
 
     small : i + 8 ≤ length bs → number_from_digits 256 (take 8 (drop i bs)) < 18446744073709551616
-    small h = rw (take-eight bs i h) (omega (
-      arith,
-      bytes_below bs bytes i,
-      bytes_below bs bytes (i + 1),
-      bytes_below bs bytes (i + 2),
-      bytes_below bs bytes (i + 3),
-      bytes_below bs bytes (i + 4),
-      bytes_below bs bytes (i + 5),
-      bytes_below bs bytes (i + 6),
-      bytes_below bs bytes (i + 7),
-    ))
+    small h = grind (arith, take-eight, bytes_below)
 
     go : (t : Bool) → leb (i + 8) (length bs) ≡ t → pick t (Some (number_from_digits 256 (take 8 (drop i bs)))) None ≡ Some n → NumberThere bs i n
     go true h e =
         let room : i + 8 ≤ length bs = leb-true _ _ h in
         let is : number_from_digits 256 (take 8 (drop i bs)) ≡ n = cc in
         record { stands = taken-stands bs i 8 (eight n) (length-eight n) (sym (ap eight (sym is) ∙ eights room)); small = rw is at (small room); room = room }
-    go false h e = let z : ◌≡◌ {A = ℕ} 0 1 = cc in absurd (omega arith)
+    go false h e = absurd cc

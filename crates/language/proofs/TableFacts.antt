@@ -1,7 +1,6 @@
 -- A table of functions tells names apart as the names themselves do: its entries are those of the functions whose names are read, and names
 -- that are the same come to the same number. And one entry after the other, for loops. Assumes nothing.
-use Rattle.std.proofs.Common.{◌≡◌, ℕ, zero, suc, ◌+◌, ◌*◌, ◌%◌, ◌<◌, ◌≤◌, Bool, true, false, not, ◌&&◌, eqb, List, [], ◌∷◌, ◌++◌, length, get_or, take, drop, set, Some, None, Option, sym, refl, ap, ◌∙◌, ap₂, arith, eq-eqb, ne_eqb}
-use mathlib.Core.Bool.{and-false}
+use Rattle.std.proofs.Common.{◌≡◌, ℕ, zero, suc, ◌+◌, ◌*◌, ◌%◌, ◌<◌, ◌≤◌, true, false, not, ◌&&◌, eqb, List, [], ◌∷◌, ◌++◌, length, get_or, take, drop, set, Some, None, Option, sym, refl, ap, ◌∙◌, ap₂, arith}
 use Rattle.std.specs.List.{between}
 use Rattle.std.proofs.lemmas.List.{append_assoc, length-set, take_more_set, drop_more, drop_all}
 use Rattle.language.specs.Basics.{each, flat, same}
@@ -10,7 +9,7 @@ use Rattle.language.specs.Names.{has, distinct}
 use Rattle.language.specs.Reading.{name_end, fun_end}
 use Rattle.language.specs.Contents.{listed, name_there, fun_names}
 use Rattle.language.specs.Table.{hashed, hash, table_from, none_like, all_differ}
-use Rattle.language.proofs.NameFacts.{same_eq, not_or}
+use Rattle.language.proofs.NameFacts.{same_eq}
 use Rattle.language.proofs.ContentsLaws.{fun_names_none, fun_names_no_name, fun_names-cut, fun_names_more}
 
 -- one byte after the other
@@ -22,18 +21,9 @@ pub hashed-end : (h : ℕ) (x : Name) (k : ℕ) → length x ≤ k → hashed h 
 unfolding hashed
 hashed-end h x k l = ap (hashed h) (drop_all k x l)
 
-pub hashed-small : (h : ℕ) (x : Name) → h < 18446744073709551616 → hashed h x < 18446744073709551616
-unfolding hashed
-hashed-small h [] l = l
-hashed-small h (b ∷ bs) l = hashed-small ((h * 1099511628211 + b) % 18446744073709551616) bs (omega arith)
-
 -- the numbers only rule names out
 hash-same : (x y : Name) → (eqb (hash x) (hash y) && same x y) ≡ same x y
-hash-same x y = go (same x y) refl
-  where
-    go : (t : Bool) → same x y ≡ t → (eqb (hash x) (hash y) && t) ≡ t
-    go true e = ap (λ b. b && true) (eq-eqb _ _ (ap hash (same_eq x y e)))
-    go false e = and-false (eqb (hash x) (hash y))
+hash-same x y = grind (arith, same_eq)
 
 -- one function after the other
 module _ (bs : List ℕ) (i n m : ℕ) where
@@ -46,23 +36,21 @@ module _ (bs : List ℕ) (i n m : ℕ) where
   table_none e = ap (λ k. table_from k bs i) e
 
   pub table_no_name : n ≡ suc m → name_end bs i ≡ None → table_from n bs i ≡ []
-  table_no_name e p = table_turn e ∙ ap (λ o. listed o (λ j. hash (between (i + 8) j bs) ∷ i ∷ listed (fun_end bs i) (λ k. table_from m bs k))) p
+  table_no_name e p = grind (arith, table_turn)
 
   at_table_name : n ≡ suc m → (j : ℕ) → name_end bs i ≡ Some j → table_from n bs i ≡ hash (name_there bs i) ∷ i ∷ listed (fun_end bs i) (λ k. table_from m bs k)
-  at_table_name e j p =
-      table_turn e ∙ ap (λ o. listed o (λ j. hash (between (i + 8) j bs) ∷ i ∷ listed (fun_end bs i) (λ k. table_from m bs k))) p
-      ∙ ap (λ o. hash (listed o (λ j. between (i + 8) j bs)) ∷ i ∷ listed (fun_end bs i) (λ k. table_from m bs k)) (sym p)
+  at_table_name e j p = grind (arith, table_turn)
 
   pub table_cut : n ≡ suc m → (j : ℕ) → name_end bs i ≡ Some j → fun_end bs i ≡ None → table_from n bs i ≡ hash (name_there bs i) ∷ i ∷ []
-  table_cut e j p f = at_table_name e j p ∙ ap (λ o. hash (name_there bs i) ∷ i ∷ listed o (λ k. table_from m bs k)) f
+  table_cut e j p f = grind (arith, at_table_name)
 
   pub table_more : n ≡ suc m → (j k : ℕ) → name_end bs i ≡ Some j → fun_end bs i ≡ Some k → table_from n bs i ≡ hash (name_there bs i) ∷ i ∷ table_from m bs k
-  table_more e j k p f = at_table_name e j p ∙ ap (λ o. hash (name_there bs i) ∷ i ∷ listed o (λ k. table_from m bs k)) f
+  table_more e j k p f = grind (arith, at_table_name)
 
   -- a table that is being written: one entry more
   pub table_grown : (t : List ℕ) → n ≡ suc m → (j k : ℕ) → name_end bs i ≡ Some j → fun_end bs i ≡ Some k →
       t ++ table_from n bs i ≡ (t ++ hash (name_there bs i) ∷ i ∷ []) ++ table_from m bs k
-  table_grown t e j k p f = ap (λ l. t ++ l) (table_more e j k p f) ∙ sym (append_assoc t (hash (name_there bs i) ∷ i ∷ []) (table_from m bs k))
+  table_grown t e j k p f = grind (arith, table_more, append_assoc)
 
 pub entry_written : (t : List ℕ) (k h o : ℕ) → 2 * k + 1 < length t → take (2 * (k + 1)) (set (set t (2 * k) h) (2 * k + 1) o) ≡ take (2 * k) t ++ h ∷ o ∷ []
 entry_written t k h o l =
@@ -107,9 +95,7 @@ module _ (bs : List ℕ) where
   like_law : (o : ℕ) (os : List ℕ) → none_like bs (hash (name_there bs o)) o (flat entry os) ≡ not (has (each (name_there bs) os) (name_there bs o))
   unfolding none_like entry
   like_law o [] = refl
-  like_law o (p ∷ os) =
-      ap₂ (λ a b. not a && b) (hash-same (name_there bs o) (name_there bs p)) (like_law o os)
-      ∙ not_or (same (name_there bs o) (name_there bs p)) (has (each (name_there bs) os) (name_there bs o))
+  like_law o (p ∷ os) = grind (arith, hash-same, like_law o os)
 
   differ_law : (os : List ℕ) → all_differ bs (flat entry os) ≡ distinct (each (name_there bs) os)
   unfolding all_differ distinct entry
@@ -122,32 +108,22 @@ module _ (bs : List ℕ) where
 -- one entry of a table after the other
 module _ (t : List ℕ) (k : ℕ) where
   entry_more : 2 * k + 1 < length t → drop (2 * k) t ≡ get_or t (2 * k) 0 ∷ get_or t (2 * k + 1) 0 ∷ drop (2 * (k + 1)) t
-  entry_more h =
-      drop_more t (2 * k) 0 (omega arith) ∙ ap (λ l. get_or t (2 * k) 0 ∷ l) (drop_more t (2 * k + 1) 0 h)
-      ∙ ap (λ n. get_or t (2 * k) 0 ∷ get_or t (2 * k + 1) 0 ∷ drop n t) (let z : 2 * k + 1 + 1 ≡ 2 * (k + 1) = omega arith in z)
+  entry_more h = grind (arith, drop_more)
 
   module _ (bs : List ℕ) where
-    pub all_none : length t ≤ 2 * k → all_differ bs (drop (2 * k) t) ≡ true
-    unfolding all_differ
-    all_none h = ap (all_differ bs) (drop_all (2 * k) t h)
-
     all-turn : 2 * k + 1 < length t →
         all_differ bs (drop (2 * k) t) ≡ (none_like bs (get_or t (2 * k) 0) (get_or t (2 * k + 1) 0) (drop (2 * (k + 1)) t) && all_differ bs (drop (2 * (k + 1)) t))
     unfolding all_differ
     all-turn h = ap (all_differ bs) (entry_more h)
 
     pub all_not : 2 * k + 1 < length t → none_like bs (get_or t (2 * k) 0) (get_or t (2 * k + 1) 0) (drop (2 * (k + 1)) t) ≡ false → all_differ bs (drop (2 * k) t) ≡ false
-    all_not h e = all-turn h ∙ ap (λ b. b && all_differ bs (drop (2 * (k + 1)) t)) e
+    all_not h e = grind (arith, all-turn)
 
     pub all_more : 2 * k + 1 < length t → none_like bs (get_or t (2 * k) 0) (get_or t (2 * k + 1) 0) (drop (2 * (k + 1)) t) ≡ true →
         all_differ bs (drop (2 * k) t) ≡ all_differ bs (drop (2 * (k + 1)) t)
-    all_more h e = all-turn h ∙ ap (λ b. b && all_differ bs (drop (2 * (k + 1)) t)) e
+    all_more h e = grind (arith, all-turn)
 
   module _ (bs : List ℕ) (h o : ℕ) where
-    pub like_none : length t ≤ 2 * k → none_like bs h o (drop (2 * k) t) ≡ true
-    unfolding none_like
-    like_none l = ap (none_like bs h o) (drop_all (2 * k) t l)
-
     like_turn : 2 * k + 1 < length t →
         none_like bs h o (drop (2 * k) t)
         ≡ (not (eqb h (get_or t (2 * k) 0) && same (name_there bs o) (name_there bs (get_or t (2 * k + 1) 0))) && none_like bs h o (drop (2 * (k + 1)) t))
@@ -155,15 +131,13 @@ module _ (t : List ℕ) (k : ℕ) where
     like_turn l = ap (none_like bs h o) (entry_more l)
 
     pub like_not : 2 * k + 1 < length t → h ≡ get_or t (2 * k) 0 → same (name_there bs o) (name_there bs (get_or t (2 * k + 1) 0)) ≡ true → none_like bs h o (drop (2 * k) t) ≡ false
-    like_not l e s = like_turn l ∙ ap₂ (λ a b. not (a && b) && none_like bs h o (drop (2 * (k + 1)) t)) (eq-eqb _ _ e) s
+    like_not l e s = grind (arith, like_turn)
 
     -- told apart by the numbers
     pub like_apart : 2 * k + 1 < length t → (h ≡ get_or t (2 * k) 0 → ⊥) → none_like bs h o (drop (2 * k) t) ≡ none_like bs h o (drop (2 * (k + 1)) t)
-    like_apart l e =
-        like_turn l
-        ∙ ap (λ a. not (a && same (name_there bs o) (name_there bs (get_or t (2 * k + 1) 0))) && none_like bs h o (drop (2 * (k + 1)) t)) (ne_eqb _ _ e)
+    like_apart l e = grind (arith, like_turn)
 
     -- told apart by the names
     pub like_more : 2 * k + 1 < length t → h ≡ get_or t (2 * k) 0 → same (name_there bs o) (name_there bs (get_or t (2 * k + 1) 0)) ≡ false →
         none_like bs h o (drop (2 * k) t) ≡ none_like bs h o (drop (2 * (k + 1)) t)
-    like_more l e s = like_turn l ∙ ap₂ (λ a b. not (a && b) && none_like bs h o (drop (2 * (k + 1)) t)) (eq-eqb _ _ e) s
+    like_more l e s = grind (arith, like_turn)

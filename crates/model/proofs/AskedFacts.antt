@@ -1,5 +1,5 @@
 -- A text asks for the command that is spelled so and fits, and for no other. Assumes nothing.
-use Rattle.std.proofs.Common.{◌≡◌, ℕ, ◌<◌, true, ◌&&◌, ltb, leb, List, [], ◌∷◌, ◌++◌, length, get_or, Some, None, sym, refl, ap, ◌∙◌, subst, ap₂, arith, ltb-true}
+use Rattle.std.proofs.Common.{◌≡◌, ℕ, ◌<◌, true, ltb, List, [], ◌∷◌, ◌++◌, length, get_or, Some, None, sym, refl, ap, ◌∙◌, subst, ap₂, arith, ltb-true}
 use borrow.Author.Tests.{clash}
 use Rattle.std.proofs.lemmas.List.{append_assoc, append-nil}
 use Rattle.std.proofs.lemmas.Bool.{and_parts, and_from}
@@ -15,7 +15,7 @@ use Rattle.language.proofs.HeadFacts.{either}
 use Rattle.language.proofs.ProgramFacts.{program_read, program_was}
 use Rattle.model.specs.Command.{Command, load, show, names, rename_bind, rename_param, rename_fun, extract, inline_bind, inline_call, turn_cond, drop_fun, undo, place_spelled, spelled, a_place, fits}
 use Rattle.model.specs.Whole.{Said}
-use Rattle.model.specs.Reading.{Ask, loading, asking, Asks, Field, Located, located, Target, target, name_in, index_in, place_in, last_name, target_in, last_target, whole, load_in, by_name, by_names, by_place, by_place_name, by_index_name, command_in, of_kind, asked}
+use Rattle.model.specs.Reading.{Ask, loading, asking, Asks, Field, Located, located, Target, target, last_name, target_in, whole, load_in, by_name, by_names, by_place, by_place_name, by_index_name, command_in, of_kind, asked}
 use Rattle.model.proofs.FieldFacts.{name_fields, index_fields, an_index, place_fields}
 
 -- nothing comes after it
@@ -29,17 +29,15 @@ last_read x h =
 
 last_was : (bs : List ℕ) (x : Name) → all_bytes bs ≡ true → last_name bs ≡ Some x → (a_name x ≡ true) × (bs ≡ with_length x)
 last_was bs x bytes e =
-    let got = found_some (name_in bs) (λ (f : Field). pick (none_of f.rest) (Some f.value) None) x e in
+    let got = found_some _ _ _ e in
     let f = got.0 in
     let w = name_fields.was bs f bytes got.1 in
-    let kept = pick_some (none_of f.rest) f.value x got.2 in
+    let kept = pick_some _ _ _ got.2 in
     subst (λ y. (a_name y ≡ true) × (bs ≡ with_length y)) kept.1
     (w.0, w.1 ∙ ap (λ r. with_length f.value ++ r) (none_rest f.rest kept.0) ∙ append-nil (with_length f.value))
 
 target_read : (x : Name) (ks rest : List ℕ) → a_name x ≡ true → a_place ks ≡ true → target_in (with_length x ++ (place_spelled ks ++ rest)) ≡ Some (located x ks rest)
-target_read x ks rest h k =
-    ap (λ o. found o (λ (f : Field). found (place_in f.rest) (λ (g : Field). Some (located f.value g.value g.rest)))) (name_fields.read x (place_spelled ks ++ rest) h)
-    ∙ ap (λ o. found o (λ (g : Field). Some (located x g.value g.rest))) (place_fields.read ks rest k)
+target_read x ks rest h k = grind (arith, name_fields, place_fields)
 
 record TargetWas (bs : List ℕ) (t : Located) : Type 0 where
   name-fits : a_name t.function ≡ true
@@ -49,10 +47,10 @@ record TargetWas (bs : List ℕ) (t : Located) : Type 0 where
 
 target_was : (bs : List ℕ) (t : Located) → all_bytes bs ≡ true → target_in bs ≡ Some t → TargetWas bs t
 target_was bs t bytes e =
-    let got = found_some (name_in bs) (λ (f : Field). found (place_in f.rest) (λ (g : Field). Some (located f.value g.value g.rest))) t e in
+    let got = found_some _ _ _ e in
     let f = got.0 in
     let w = name_fields.was bs f bytes got.1 in
-    let got2 = found_some (place_in f.rest) (λ (g : Field). Some (located f.value g.value g.rest)) t got.2 in
+    let got2 = found_some _ _ _ got.2 in
     let g = got2.0 in
     let v = place_fields.was f.rest g w.2 got2.1 in
     let is : located f.value g.value g.rest ≡ t = cc got2.2 in
@@ -62,12 +60,10 @@ target_was bs t bytes e =
 -- each shape of a command, read from what is spelled so
 module _ (x : Name) (h : a_name x ≡ true) where
   name_reads : (c : Name → Command) → by_name c (with_length x) ≡ Some (asking (c x))
-  name_reads c = ap (λ o. found o (λ y. Some (asking (c y)))) (last_read x h)
+  name_reads c = grind (arith, last_read)
 
   names_reads : (c : Name → Name → Command) (y : Name) → a_name y ≡ true → by_names c (with_length x ++ with_length y) ≡ Some (asking (c x y))
-  names_reads c y k =
-      ap (λ o. found o (λ (f : Field). found (last_name f.rest) (λ z. Some (asking (c f.value z))))) (name_fields.read x (with_length y) h)
-      ∙ ap (λ o. found o (λ z. Some (asking (c x z)))) (last_read y k)
+  names_reads c y k = grind (arith, name_fields, last_read)
 
   place_reads : (c : Name → List ℕ → Command) (ks : List ℕ) → a_place ks ≡ true → by_place c (with_length x ++ place_spelled ks) ≡ Some (asking (c x ks))
   place_reads c ks k =
@@ -77,33 +73,24 @@ module _ (x : Name) (h : a_name x ≡ true) where
 
   place_name_reads : (c : Name → List ℕ → Name → Command) (ks : List ℕ) (y : Name) → a_place ks ≡ true → a_name y ≡ true →
       by_place_name c (with_length x ++ place_spelled ks ++ with_length y) ≡ Some (asking (c x ks y))
-  place_name_reads c ks y k l =
-      ap (by_place_name c) (append_assoc (with_length x) (place_spelled ks) (with_length y))
-      ∙ ap (λ o. found o (λ (t : Located). found (last_name t.rest) (λ z. Some (asking (c t.function t.place z))))) (target_read x ks (with_length y) h k)
-      ∙ ap (λ o. found o (λ z. Some (asking (c x ks z)))) (last_read y l)
+  place_name_reads c ks y k l = grind (arith, append_assoc, target_read, last_read)
 
   index_name_reads : (c : Name → ℕ → Name → Command) (i : ℕ) (y : Name) → ltb i 16 ≡ true → a_name y ≡ true →
       by_index_name c (with_length x ++ i ∷ with_length y) ≡ Some (asking (c x i y))
-  index_name_reads c i y k l =
-      ap (λ o. found o (λ (f : Field). found (index_in f.rest) (λ (g : Field). found (last_name g.rest) (λ z. Some (asking (c f.value (get_or g.value 0 0) z))))))
-      (name_fields.read x (i ∷ with_length y) h)
-      ∙ ap (λ o. found o (λ (g : Field). found (last_name g.rest) (λ z. Some (asking (c x (get_or g.value 0 0) z))))) (index_fields.read (i ∷ []) (with_length y) k)
-      ∙ ap (λ o. found o (λ z. Some (asking (c x i z)))) (last_read y l)
+  index_name_reads c i y k l = grind (arith, name_fields, last_read)
 
 pub bytes_place : (ks : List ℕ) → a_place ks ≡ true → all_bytes (place_spelled ks) ≡ true
-bytes_place ks h = bytes_append (eight (length ks)) ks (bytes_eight (length ks)) (go ks (and_parts (leb (length ks) 4096) (every (λ k. ltb k 16) ks) h).1)
+bytes_place ks h = bytes_append (eight (length ks)) ks (bytes_eight (length ks)) (go ks (and_parts _ _ h).1)
   where
     go : (ks : List ℕ) → every (λ k. ltb k 16) ks ≡ true → all_bytes ks ≡ true
     go [] h = refl
-    go (k ∷ ks) h = let q = and_parts (ltb k 16) (every (λ k. ltb k 16) ks) h in bytes_first k ks (omega (arith, ltb-true k 16 q.0)) (go ks q.1)
+    go (k ∷ ks) h = let q = and_parts _ _ h in bytes_first k ks (omega (arith, ltb-true _ _ q.0)) (go ks q.1)
 
 two_bytes : (k : ℕ) (x : Name) (ks : List ℕ) → k < 256 → a_name x ≡ true → a_place ks ≡ true → all_bytes (k ∷ (with_length x ++ place_spelled ks)) ≡ true
-two_bytes k x ks b h l = bytes_first k (with_length x ++ place_spelled ks) b (bytes_append (with_length x) (place_spelled ks) (bytes_name x h) (bytes_place ks l))
+two_bytes k x ks b h l = grind (arith, bytes_append, bytes_name, bytes_place)
 
 three_bytes : (k : ℕ) (x : Name) (ks : List ℕ) (y : Name) → k < 256 → a_name x ≡ true → a_place ks ≡ true → a_name y ≡ true → all_bytes (k ∷ (with_length x ++ place_spelled ks ++ with_length y)) ≡ true
-three_bytes k x ks y b h l m =
-    bytes_first k (with_length x ++ place_spelled ks ++ with_length y) b
-    (bytes_append (with_length x ++ place_spelled ks) (with_length y) (bytes_append (with_length x) (place_spelled ks) (bytes_name x h) (bytes_place ks l)) (bytes_name y m))
+three_bytes k x ks y b h l m = grind (arith, bytes_append, bytes_name, bytes_place)
 
 -- what a command that fits asks for, and that it is spelled in bytes
 record ReadSo (c : Command) : Type 0 where
@@ -133,33 +120,33 @@ read_so (load p) h = loading_so p h
 read_so (show x) h = so (show x) (name_reads x h show) (bytes_first 2 (with_length x) (omega arith) (bytes_name x h))
 read_so names h = so names refl refl
 read_so (rename_bind x ks y) h =
-    let q = and_parts (a_name x && a_name y) (a_place ks) h in
-    let r = and_parts (a_name x) (a_name y) q.0 in
+    let q = and_parts _ _ h in
+    let r = and_parts _ _ q.0 in
     so (rename_bind x ks y) (place_name_reads x r.0 rename_bind ks y q.1 r.1) (three_bytes 4 x ks y (omega arith) r.0 q.1 r.1)
 read_so (rename_param x i y) h =
-    let q = and_parts (a_name x && a_name y) (ltb i 16) h in
-    let r = and_parts (a_name x) (a_name y) q.0 in
+    let q = and_parts _ _ h in
+    let r = and_parts _ _ q.0 in
     so (rename_param x i y) (index_name_reads x r.0 rename_param i y q.1 r.1)
     (bytes_first 5 (with_length x ++ i ∷ with_length y) (omega arith)
     (bytes_append (with_length x) (i ∷ with_length y) (bytes_name x r.0)
-    (bytes_first i (with_length y) (omega (arith, ltb-true i 16 q.1)) (bytes_name y r.1))))
+    (bytes_first i (with_length y) (omega (arith, ltb-true _ _ q.1)) (bytes_name y r.1))))
 read_so (rename_fun x y) h =
-    let r = and_parts (a_name x) (a_name y) h in
+    let r = and_parts _ _ h in
     so (rename_fun x y) (names_reads x r.0 rename_fun y r.1)
     (bytes_first 6 (with_length x ++ with_length y) (omega arith)
     (bytes_append (with_length x) (with_length y) (bytes_name x r.0) (bytes_name y r.1)))
 read_so (extract x ks y) h =
-    let q = and_parts (a_name x && a_name y) (a_place ks) h in
-    let r = and_parts (a_name x) (a_name y) q.0 in
+    let q = and_parts _ _ h in
+    let r = and_parts _ _ q.0 in
     so (extract x ks y) (place_name_reads x r.0 extract ks y q.1 r.1) (three_bytes 7 x ks y (omega arith) r.0 q.1 r.1)
 read_so (inline_bind x ks) h =
-    let r = and_parts (a_name x) (a_place ks) h in
+    let r = and_parts _ _ h in
     so (inline_bind x ks) (place_reads x r.0 inline_bind ks r.1) (two_bytes 8 x ks (omega arith) r.0 r.1)
 read_so (inline_call x ks) h =
-    let r = and_parts (a_name x) (a_place ks) h in
+    let r = and_parts _ _ h in
     so (inline_call x ks) (place_reads x r.0 inline_call ks r.1) (two_bytes 9 x ks (omega arith) r.0 r.1)
 read_so (turn_cond x ks) h =
-    let r = and_parts (a_name x) (a_place ks) h in
+    let r = and_parts _ _ h in
     so (turn_cond x ks) (place_reads x r.0 turn_cond ks r.1) (two_bytes 10 x ks (omega arith) r.0 r.1)
 read_so (drop_fun x) h = so (drop_fun x) (name_reads x h drop_fun) (bytes_first 11 (with_length x) (omega arith) (bytes_name x h))
 read_so undo h = so undo refl refl
@@ -182,14 +169,14 @@ module _ (k : ℕ) (bs : List ℕ) (bytes : all_bytes bs ≡ true) (a : Ask) whe
   alone_was : (c : Command) → spelled c ≡ k ∷ [] → fits c ≡ true → whole bs c ≡ Some a → Written k bs a
   unfolding Asks
   alone_was c s f e =
-      let kept = pick_some (none_of bs) (asking c) a e in
+      let kept = pick_some _ _ _ e in
       subst (Written k bs) kept.1 (c, s ∙ ap (λ r. k ∷ r) (sym (none_rest bs kept.0)), f, refl)
 
   name_was : (c : Name → Command) → ((x : Name) → spelled (c x) ≡ k ∷ with_length x) → ((x : Name) → a_name x ≡ true → fits (c x) ≡ true) →
       by_name c bs ≡ Some a → Written k bs a
   unfolding Asks
   name_was c s f e =
-      let got = found_some (last_name bs) (λ x. Some (asking (c x))) a e in
+      let got = found_some _ _ _ e in
       let x = got.0 in
       let w = last_was bs x bytes got.1 in
       let is : asking (c x) ≡ a = cc got.2 in
@@ -199,10 +186,10 @@ module _ (k : ℕ) (bs : List ℕ) (bytes : all_bytes bs ≡ true) (a : Ask) whe
       ((x y : Name) → a_name x ≡ true → a_name y ≡ true → fits (c x y) ≡ true) → by_names c bs ≡ Some a → Written k bs a
   unfolding Asks
   names_was c s f e =
-      let got = found_some (name_in bs) (λ (g : Field). found (last_name g.rest) (λ y. Some (asking (c g.value y)))) a e in
+      let got = found_some _ _ _ e in
       let g = got.0 in
       let w = name_fields.was bs g bytes got.1 in
-      let got2 = found_some (last_name g.rest) (λ y. Some (asking (c g.value y))) a got.2 in
+      let got2 = found_some _ _ _ got.2 in
       let y = got2.0 in
       let v = last_was g.rest y w.2 got2.1 in
       let is : asking (c g.value y) ≡ a = cc got2.2 in
@@ -212,12 +199,12 @@ module _ (k : ℕ) (bs : List ℕ) (bytes : all_bytes bs ≡ true) (a : Ask) whe
       ((x : Name) (ks : List ℕ) → a_name x ≡ true → a_place ks ≡ true → fits (c x ks) ≡ true) → by_place c bs ≡ Some a → Written k bs a
   unfolding Asks
   place_was c s f e =
-      let got = found_some (last_target bs) (λ (t : Target). Some (asking (c t.function t.place))) a e in
+      let got = found_some _ _ _ e in
       let t = got.0 in
-      let got2 = found_some (target_in bs) (λ (l : Located). pick (none_of l.rest) (Some (target l.function l.place)) None) t got.1 in
+      let got2 = found_some _ _ _ got.1 in
       let l = got2.0 in
       let w = target_was bs l bytes got2.1 in
-      let kept = pick_some (none_of l.rest) (target l.function l.place) t got2.2 in
+      let kept = pick_some _ _ _ got2.2 in
       let is : asking (c l.function l.place) ≡ a = ap (λ (t : Target). asking (c t.function t.place)) kept.1 ∙ cc got.2 in
       subst (Written k bs) is (
         c l.function l.place,
@@ -231,10 +218,10 @@ module _ (k : ℕ) (bs : List ℕ) (bytes : all_bytes bs ≡ true) (a : Ask) whe
       ((x : Name) (ks : List ℕ) (y : Name) → a_name x ≡ true → a_place ks ≡ true → a_name y ≡ true → fits (c x ks y) ≡ true) → by_place_name c bs ≡ Some a → Written k bs a
   unfolding Asks
   place_name_was c s f e =
-      let got = found_some (target_in bs) (λ (l : Located). found (last_name l.rest) (λ y. Some (asking (c l.function l.place y)))) a e in
+      let got = found_some _ _ _ e in
       let l = got.0 in
       let w = target_was bs l bytes got.1 in
-      let got2 = found_some (last_name l.rest) (λ y. Some (asking (c l.function l.place y))) a got.2 in
+      let got2 = found_some _ _ _ got.2 in
       let y = got2.0 in
       let v = last_was l.rest y w.bytes_after got2.1 in
       let is : asking (c l.function l.place y) ≡ a = cc got2.2 in
@@ -256,15 +243,15 @@ module _ (k : ℕ) (bs : List ℕ) (bytes : all_bytes bs ≡ true) (a : Ask) whe
       ((x : Name) (i : ℕ) (y : Name) → a_name x ≡ true → ltb i 16 ≡ true → a_name y ≡ true → fits (c x i y) ≡ true) → by_index_name c bs ≡ Some a → Written k bs a
   unfolding Asks
   index_name_was c s f e =
-      let got = found_some (name_in bs) (λ (g : Field). found (index_in g.rest) (λ (h : Field). found (last_name h.rest) (λ y. Some (asking (c g.value (get_or h.value 0 0) y))))) a e in
+      let got = found_some _ _ _ e in
       let g = got.0 in
       let w = name_fields.was bs g bytes got.1 in
-      let got2 = found_some (index_in g.rest) (λ (h : Field). found (last_name h.rest) (λ y. Some (asking (c g.value (get_or h.value 0 0) y)))) a got.2 in
+      let got2 = found_some _ _ _ got.2 in
       let h = got2.0 in
       let v = index_fields.was g.rest h w.2 got2.1 in
       let one = index_one h.value v.0 in
       let i = get_or h.value 0 0 in
-      let got3 = found_some (last_name h.rest) (λ y. Some (asking (c g.value i y))) a got2.2 in
+      let got3 = found_some _ _ _ got2.2 in
       let y = got3.0 in
       let u = last_was h.rest y v.2 got3.1 in
       let is : asking (c g.value i y) ≡ a = cc got3.2 in
@@ -279,7 +266,7 @@ module _ (k : ℕ) (bs : List ℕ) (bytes : all_bytes bs ≡ true) (a : Ask) whe
   load_was : k ≡ 1 → load_in bs ≡ Some a → Written k bs a
   unfolding Asks spelled fits
   load_was k-is e =
-      let kept = pick_some (is_program bs) (loading bs) a e in
+      let kept = pick_some _ _ _ e in
       let p = program_was bs bytes kept.0 in
       subst (Written k bs) kept.1 (load p.0, ap₂ ◌∷◌ (sym k-is) p.1, p.2, (p.0, p.1, p.2, refl))
 
@@ -289,13 +276,13 @@ kind_was k bs bytes a =
     either k 1 _ _ a (λ is e. load_was k bs bytes a is e)
     (either k 2 _ _ a (λ is e. name_was k bs bytes a show (λ x. ap (λ n. n ∷ with_length x) (sym is)) (λ x h. h) e)
     (either k 3 _ _ a (λ is e. alone_was k bs bytes a names (ap (λ n. n ∷ []) (sym is)) refl e)
-    (either k 4 _ _ a (λ is e. place_name_was k bs bytes a rename_bind (λ x ks y. ap (λ n. n ∷ (with_length x ++ place_spelled ks ++ with_length y)) (sym is)) (λ x ks y h l m. and_from _ _ (and_from (a_name x) (a_name y) h m) l) e)
-    (either k 5 _ _ a (λ is e. index_name_was k bs bytes a rename_param (λ x i y. ap (λ n. n ∷ (with_length x ++ i ∷ with_length y)) (sym is)) (λ x i y h l m. and_from _ _ (and_from (a_name x) (a_name y) h m) l) e)
-    (either k 6 _ _ a (λ is e. names_was k bs bytes a rename_fun (λ x y. ap (λ n. n ∷ (with_length x ++ with_length y)) (sym is)) (λ x y h l. and_from (a_name x) (a_name y) h l) e)
-    (either k 7 _ _ a (λ is e. place_name_was k bs bytes a extract (λ x ks y. ap (λ n. n ∷ (with_length x ++ place_spelled ks ++ with_length y)) (sym is)) (λ x ks y h l m. and_from _ _ (and_from (a_name x) (a_name y) h m) l) e)
-    (either k 8 _ _ a (λ is e. place_was k bs bytes a inline_bind (λ x ks. ap (λ n. n ∷ (with_length x ++ place_spelled ks)) (sym is)) (λ x ks h l. and_from (a_name x) (a_place ks) h l) e)
-    (either k 9 _ _ a (λ is e. place_was k bs bytes a inline_call (λ x ks. ap (λ n. n ∷ (with_length x ++ place_spelled ks)) (sym is)) (λ x ks h l. and_from (a_name x) (a_place ks) h l) e)
-    (either k 10 _ _ a (λ is e. place_was k bs bytes a turn_cond (λ x ks. ap (λ n. n ∷ (with_length x ++ place_spelled ks)) (sym is)) (λ x ks h l. and_from (a_name x) (a_place ks) h l) e)
+    (either k 4 _ _ a (λ is e. place_name_was k bs bytes a rename_bind (λ x ks y. ap (λ n. n ∷ (with_length x ++ place_spelled ks ++ with_length y)) (sym is)) (λ x ks y h l m. and_from _ _ (and_from _ _ h m) l) e)
+    (either k 5 _ _ a (λ is e. index_name_was k bs bytes a rename_param (λ x i y. ap (λ n. n ∷ (with_length x ++ i ∷ with_length y)) (sym is)) (λ x i y h l m. and_from _ _ (and_from _ _ h m) l) e)
+    (either k 6 _ _ a (λ is e. names_was k bs bytes a rename_fun (λ x y. ap (λ n. n ∷ (with_length x ++ with_length y)) (sym is)) (λ x y h l. and_from _ _ h l) e)
+    (either k 7 _ _ a (λ is e. place_name_was k bs bytes a extract (λ x ks y. ap (λ n. n ∷ (with_length x ++ place_spelled ks ++ with_length y)) (sym is)) (λ x ks y h l m. and_from _ _ (and_from _ _ h m) l) e)
+    (either k 8 _ _ a (λ is e. place_was k bs bytes a inline_bind (λ x ks. ap (λ n. n ∷ (with_length x ++ place_spelled ks)) (sym is)) (λ x ks h l. and_from _ _ h l) e)
+    (either k 9 _ _ a (λ is e. place_was k bs bytes a inline_call (λ x ks. ap (λ n. n ∷ (with_length x ++ place_spelled ks)) (sym is)) (λ x ks h l. and_from _ _ h l) e)
+    (either k 10 _ _ a (λ is e. place_was k bs bytes a turn_cond (λ x ks. ap (λ n. n ∷ (with_length x ++ place_spelled ks)) (sym is)) (λ x ks h l. and_from _ _ h l) e)
     (either k 11 _ _ a (λ is e. name_was k bs bytes a drop_fun (λ x. ap (λ n. n ∷ with_length x) (sym is)) (λ x h. h) e)
     (either k 12 _ _ a (λ is e. alone_was k bs bytes a undo (ap (λ n. n ∷ []) (sym is)) refl e)
     (λ e. let z : ◌≡◌ {A = ℕ} 0 1 = cc in absurd (omega arith)))))))))))))
@@ -304,21 +291,19 @@ kind_was k bs bytes a =
 pub asked-said : (text : List ℕ) (a : Ask) → asked text ≡ Some a → (c : Command) × Said text c × Asks a c
 unfolding Said asked
 asked-said text a e =
-    let kept = pick-found (all_bytes text) (of_kind text) a e in
+    let kept = pick-found _ _ _ e in
     of text kept.0 kept.1
   where
     of : (text : List ℕ) → all_bytes text ≡ true → of_kind text ≡ Some a → (c : Command) × ((spelled c ≡ text) × (fits c ≡ true)) × Asks a c
     of [] bytes e = let z : ◌≡◌ {A = ℕ} 0 1 = cc in absurd (omega arith)
     of (k ∷ bs) bytes e =
-        let w = kind_was k bs (and_parts (ltb k 256) (all_bytes bs) bytes).1 a e in
+        let w = kind_was k bs (and_parts _ _ bytes).1 a e in
         (w.0, (w.1, w.2), w.3)
 
 -- what a text asks to load is a program's spelling
 pub asked_program : (text bs : List ℕ) → asked text ≡ Some (loading bs) → is_program bs ≡ true
 unfolding Asks
-asked_program text bs e =
-    let p = (asked-said text (loading bs) e).2 in
-    ap is_program (sym p.1) ∙ program_read p.0 (bytes_program p.0 p.2) p.2
+asked_program text bs e = grind (arith, asked-said, program_read, bytes_program)
 
 -- loading is asked for by the program's bytes
 pub load-asked : (text : List ℕ) (p : Program) → Said text (load p) → asked text ≡ Some (loading (program_spelled p))

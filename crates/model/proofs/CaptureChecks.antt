@@ -1,7 +1,6 @@
 -- The check of a renaming at each place is the model's test of bare forms: for a let at a place, and for a function's own name. Assumes nothing.
 use Rattle.std.proofs.Common.{◌≡◌, ℕ, zero, suc, ◌<◌, ◌≤◌, Bool, true, false, not, ◌&&◌, List, [], ◌∷◌, ◌++◌, length, sym, refl, ap, ◌∙◌, ap₂, subst₂, arith, length-append}
 use mathlib.Core.Path.{subst₃}
-use mathlib.Core.Bool.{and-true}
 use mathlib.Core.List.{nil≢cons}
 use Rattle.std.proofs.lemmas.Bool.{and_parts, not-true}
 use Rattle.language.specs.Basics.{or, same}
@@ -12,9 +11,10 @@ use Rattle.language.specs.Names.{has, distinct}
 use Rattle.language.specs.Bare.{b_bind, bare, alike}
 use Rattle.language.specs.Spelling.{expr_spelled}
 use Rattle.language.specs.Fits.{a_name, an_expr}
-use Rattle.language.proofs.NameFacts.{same_sym, or_left_false, or_right_false, or_false, not_or, has-append}
+use Rattle.language.proofs.NameFacts.{same_sym, or_left_false, or_false, not_or, has-append}
 use Rattle.language.proofs.BareSpelling.{alike-bare, bare_alike}
-use Rattle.language.proofs.FitFacts.{bind_fit, fit_bind, name_short, bind-long}
+use Rattle.language.proofs.HeadFacts.{name_short}
+use Rattle.language.proofs.FitFacts.{bind_fit, fit_bind, bind-long}
 use Rattle.language.proofs.PlaceFits.{at_fit, put_fit}
 use Rattle.language.proofs.PlaceLengths.{put_long, at_short}
 use Rattle.model.specs.Rename.{renamed, put_name, nth_name}
@@ -27,8 +27,7 @@ use Rattle.model.proofs.PlaceSays.{place_says}
 
 alike_says : (xs ys : List Name) (a b : Expr) → an_expr a ≡ true → an_expr b ≡ true → length xs ≤ 16 → length ys ≤ 16 →
     length (expr_spelled a) < 18446744073709551616 → length (expr_spelled b) < 18446744073709551616 → Says (alike xs a ys b) (bare xs a ≡ bare ys b)
-alike_says xs ys a b fit-a fit-b few-xs few-ys short-a short-b =
-    (alike-bare xs ys a b fit-a fit-b few-xs few-ys short-a short-b, bare_alike xs ys a b)
+alike_says xs ys a b fit-a fit-b few-xs few-ys short-a short-b = grind (arith, alike-bare, bare_alike)
 
 -- where neither name is given on the way
 clear-renamed : (e : Expr) (x y : Name) (outer zs : List Name) → has zs x ≡ false → has zs y ≡ false →
@@ -53,7 +52,7 @@ bind-clear ps body ks x y a b es fit fit_y few short stands =
       bind-long x a b,
       bind-long y a (renamed x y b),
       name_short y fit_y,
-      renamed-long b x y (name_short y fit_y),
+      renamed-long b x y (name_short y fit_y).1,
       at_short ks body (bind x a b) es stands,
     ) in
     says_same (alike ps body ps (put_at body ks new)) (clear x y false false b)
@@ -85,36 +84,29 @@ none_at (p ∷ ps) (suc i) h = omega (arith, none_at ps i h)
 
 -- none of a row with x in it is p
 apart : (left right : List Name) (x p : Name) → has (left ++ x ∷ right) p ≡ false → (has left p ≡ false) × (same p x ≡ false) × (has right p ≡ false)
-apart left right x p h =
-    let split = sym (has-append left (x ∷ right) p) ∙ h in
-    let behind = or_right_false (has left p) (or (same p x) (has right p)) split in (
-      or_left_false (has left p) (or (same p x) (has right p)) split,
-      or_left_false (same p x) (has right p) behind,
-      or_right_false (same p x) (has right p) behind,
-    )
+apart left right x p h = grind (arith, has-append)
 
 none_before : (left right : List Name) (x : Name) → distinct (left ++ x ∷ right) ≡ true → has left x ≡ false
 unfolding distinct
 none_before [] right x d = refl
 none_before (p ∷ left) right x d =
-    let both = and_parts (not (has (left ++ x ∷ right) p)) (distinct (left ++ x ∷ right)) d in
-    let other = (apart left right x p (not-true (has (left ++ x ∷ right) p) both.0)).1 in
+    let both = and_parts _ _ d in
+    let other = (apart left right x p (not-true _ both.0)).1 in
     ap (λ t. or t (has left x)) (same_sym x p ∙ other) ∙ none_before left right x both.1
 
 -- another name in x's stead: different from all the others is what it has to be
 distinct_put : (left right : List Name) (x y : Name) → distinct (left ++ x ∷ right) ≡ true → distinct (left ++ y ∷ right) ≡ not (has (left ++ right) y)
 unfolding distinct
-distinct_put [] right x y d =
-    ap (λ t. not (has right y) && t) (and_parts (not (has right x)) (distinct right) d).1 ∙ and-true (not (has right y))
+distinct_put [] right x y d = grind arith
 distinct_put (p ∷ left) right x y d =
     ap₂ (λ s t. not s && t) only_y (distinct_put left right x y both.1) ∙ not_or (same y p) (has (left ++ right) y)
   where
     both : (not (has (left ++ x ∷ right) p) ≡ true) × (distinct (left ++ x ∷ right) ≡ true)
-    both = and_parts (not (has (left ++ x ∷ right) p)) (distinct (left ++ x ∷ right)) d
+    both = and_parts _ _ d
 
     only_y : has (left ++ y ∷ right) p ≡ same y p
     only_y =
-        let other = apart left right x p (not-true (has (left ++ x ∷ right) p) both.0) in
+        let other = apart left right x p (not-true _ both.0) in
         has-append left (y ∷ right) p ∙ ap₂ (λ s t. or s (or (same p y) t)) other.0 other.2 ∙ or_false (same p y) ∙ same_sym p y
 
 module _ (left right : List Name) (body : Expr) (x y : Name) where
@@ -130,21 +122,11 @@ module _ (left right : List Name) (body : Expr) (x y : Name) where
   -- where y is none of the others
   own-alike : an_expr body ≡ true → a_name y ≡ true → length old ≤ 16 → length (expr_spelled body) ≤ 65536 → distinct old ≡ true →
       has (left ++ right) y ≡ false → alike old body new (renamed x y body) ≡ clear x y false false body
-  own-alike fit fit_y few short apart-all other =
-      says_same (alike old body new (renamed x y body)) (clear x y false false body)
-      (alike_says old new body (renamed x y body) fit (renamed_fit body x y fit_y fit) few (few-new few) (omega arith)
-      (omega (arith, renamed-long body x y (name_short y fit_y))))
-      (clear-renamed body x y right left (none_before left right x apart-all)
-      (or_left_false (has left y) (has right y) (sym (has-append left right y) ∙ other)))
+  own-alike fit fit_y few short apart-all other = grind (arith, says_same, alike_says, renamed_fit, few-new, renamed-long, name_short, clear-renamed, right, left, none_before, or_left_false, has-append)
 
   own_split : an_expr body ≡ true → a_name y ≡ true → length old ≤ 16 → length (expr_spelled body) ≤ 65536 → distinct old ≡ true →
       (distinct new && alike old body new (renamed x y body)) ≡ (not (has (left ++ right) y) && clear x y false false body)
-  own_split fit fit_y few short apart-all =
-      ap (λ t. t && alike old body new (renamed x y body)) (distinct_put left right x y apart-all) ∙ go (has (left ++ right) y) refl
-    where
-      go : (t : Bool) → has (left ++ right) y ≡ t → (not t && alike old body new (renamed x y body)) ≡ (not t && clear x y false false body)
-      go true e = refl
-      go false e = own-alike fit fit_y few short apart-all e
+  own_split fit fit_y few short apart-all = grind (arith, distinct_put, left, right, own-alike)
 
 pub own-clear : OwnClear
 own-clear ps body i x y xs fit fit_y few short found apart-all =

@@ -1,18 +1,18 @@
 -- Checking a renaming at each place decides whether every name still means what it meant.
 -- One induction gives both directions: what the check says is what the bare forms say. Assumes nothing.
-use Rattle.std.proofs.Common.{◌≡◌, ℕ, suc, Bool, true, false, not, ◌&&◌, List, [], ◌∷◌, ◌++◌, length, sym, refl, ap, ◌∙◌, ap₂, append-nil, zero-add, arith}
+use Rattle.std.proofs.Common.{◌≡◌, ℕ, suc, Bool, true, false, not, ◌&&◌, List, [], ◌∷◌, ◌++◌, length, sym, refl, ap, ◌∙◌, ap₂, append-nil, arith}
 use mathlib.Core.Bool.{and-true, and-false}
 use borrow.Author.Tests.{clash}
-use Rattle.std.proofs.lemmas.Bool.{and_parts, not-true}
+use Rattle.std.proofs.lemmas.Bool.{not-true}
 use Rattle.language.specs.Basics.{pick, or, same}
 use Rattle.language.specs.Bytes.{Name}
 use Rattle.language.specs.Expr.{Expr, num, var, bin, call, bind, choice, tell, Exprs, no_exprs, expr_and}
 use Rattle.language.specs.Names.{has}
 use Rattle.language.specs.Bare.{Bare, b_near, b_bin, b_call, b_bind, b_choice, b_tell, bare_and, how_near, near_or_far, bare, bare_all}
-use Rattle.language.proofs.NameFacts.{same_refl, same_eq, or_right_true}
+use Rattle.language.proofs.NameFacts.{same_refl, same_eq}
 use Rattle.language.proofs.NearFacts.{near_in, near_out, near_low, near_below}
 use Rattle.model.specs.Rename.{renamed, renamed_all}
-use Rattle.model.proofs.Says.{Says, says_true, says_false, says_map, says_and, two_says}
+use Rattle.model.proofs.Says.{Says, says_true, says_map, two_says}
 use Rattle.model.specs.Capture.{clear, clear_all, under, under_all}
 
 -- nothing is renamed where x is given anew
@@ -24,8 +24,7 @@ mutual
   under_hidden (var z) x y = ap (λ t. var (pick t y z)) (and-false (same x z))
   under_hidden (bin k a b) x y = ap₂ (bin k) (under_hidden a x y) (under_hidden b x y)
   under_hidden (call f es) x y = ap (call f) (all_hidden es x y)
-  under_hidden (bind z a b) x y =
-      ap₂ (bind z) (under_hidden a x y) (ap (λ h. under x y h b) (or_right_true (same x z) true refl) ∙ under_hidden b x y)
+  under_hidden (bind z a b) x y = grind (arith, under_hidden a x y, under_hidden b x y)
   under_hidden (choice c a b) x y = λ i. choice (under_hidden c x y i) (under_hidden a x y i) (under_hidden b x y i)
   under_hidden (tell a) x y = ap tell (under_hidden a x y)
 
@@ -61,9 +60,7 @@ near us z = near_or_far (how_near us z 0) z
 behind : (zs outer : List Name) (u z : Name) (t : Bool) → has zs z ≡ false → same u z ≡ t →
     near (zs ++ u ∷ outer) z ≡ near_or_far (pick t (length zs ∷ []) (how_near outer z (suc (length zs)))) z
 unfolding how_near
-behind zs outer u z t h e =
-    ap (λ ks. near_or_far ks z) (near_out zs (u ∷ outer) z 0 h)
-    ∙ ap₂ (λ n s. near_or_far (pick s (n ∷ []) (how_near outer z (suc n))) z) (zero-add (length zs)) e
+behind zs outer u z t h e = grind (arith, near_out)
 
 near-there : (zs outer : List Name) (u z : Name) → has zs z ≡ false → same u z ≡ true → near (zs ++ u ∷ outer) z ≡ b_near (length zs)
 unfolding near_or_far
@@ -91,60 +88,29 @@ farther ys x n = not_that_near (how_near ys x (suc n)) x n (λ j js e m. let low
 module _ (x y : Name) (outer zs : List Name) where
   -- a use of what is renamed
   renamed_says : (z : Name) → same x z ≡ true → has zs x ≡ false → Says (not (has zs y)) (near (zs ++ x ∷ outer) z ≡ near (zs ++ y ∷ outer) y)
-  renamed_says z e h = go (has zs y) refl
-    where
-      own : near (zs ++ x ∷ outer) z ≡ b_near (length zs)
-      own = near-there zs outer x z (ap (has zs) (sym (same_eq x z e)) ∙ h) e
-
-      go : (t : Bool) → has zs y ≡ t → Says (not t) (near (zs ++ x ∷ outer) z ≡ near (zs ++ y ∷ outer) y)
-      go true k = says_false false refl (λ p. nearer zs (y ∷ outer) y k (sym p ∙ own))
-      go false k = says_true true refl (own ∙ sym (near-there zs outer y y k (same_refl y)))
+  renamed_says z e h = grind (arith, near-there, same_eq, nearer, same_refl)
 
   -- a use of something that is given on the way
   inside_says : (z : Name) → has zs z ≡ true → Says (not (same y z && not (has zs y))) (near (zs ++ x ∷ outer) z ≡ near (zs ++ y ∷ outer) z)
-  inside_says z h =
-      says_true (not (same y z && not (has zs y))) (go (same y z) refl) (ap (λ ks. near_or_far ks z) (near_in zs (x ∷ outer) (y ∷ outer) z 0 h))
-    where
-      go : (t : Bool) → same y z ≡ t → not (t && not (has zs y)) ≡ true
-      go true e = ap (λ v. not (not (has zs v))) (same_eq y z e) ∙ ap (λ b. not (not b)) h
-      go false e = refl
+  inside_says z h = grind (arith, near_in, same_eq)
 
   -- a use of something that is not
   outside_says : (z : Name) → has zs z ≡ false → same x z ≡ false →
       Says (not (same y z && not (has zs y))) (near (zs ++ x ∷ outer) z ≡ near (zs ++ y ∷ outer) z)
-  outside_says z h e = go (same y z) refl
-    where
-      go : (t : Bool) → same y z ≡ t → Says (not (t && not (has zs y))) (near (zs ++ x ∷ outer) z ≡ near (zs ++ y ∷ outer) z)
-      go true k =
-          says_false (not (not (has zs y))) (ap (λ v. not (not (has zs v))) (same_eq y z k) ∙ ap (λ b. not (not b)) h)
-          (λ p. farther outer z (length zs) (sym (near_past zs outer x z h e) ∙ p ∙ near-there zs outer y z h k))
-      go false k = says_true true refl (near_past zs outer x z h e ∙ sym (near_past zs outer y z h k))
+  outside_says z h e = grind (arith, same_eq, farther, near_past, near-there)
 
   other_says : (z : Name) → (same x z && not (has zs x)) ≡ false →
       Says (not (same y z && not (has zs y))) (near (zs ++ x ∷ outer) z ≡ near (zs ++ y ∷ outer) z)
-  other_says z other = go (has zs z) (same x z) refl refl
-    where
-      go : (t s : Bool) → has zs z ≡ t → same x z ≡ s → Says (not (same y z && not (has zs y))) (near (zs ++ x ∷ outer) z ≡ near (zs ++ y ∷ outer) z)
-      go true s h e = inside_says z h
-      go false true h e =
-          absurd (clash (sym other ∙ ap (λ b. b && not (has zs x)) e ∙ ap (λ v. not (has zs v)) (same_eq x z e) ∙ ap not h))
-      go false false h e = outside_says z h e
+  other_says z other = grind (arith, inside_says, clash, same_eq, outside_says)
 
   var_says : (z : Name) →
       Says (clear x y (has zs x) (has zs y) (var z)) (bare (zs ++ x ∷ outer) (var z) ≡ bare (zs ++ y ∷ outer) (under x y (has zs x) (var z)))
   unfolding clear bare under
-  var_says z = go (same x z && not (has zs x)) refl
-    where
-      go : (t : Bool) → (same x z && not (has zs x)) ≡ t →
-          Says (pick t (not (has zs y)) (not (same y z && not (has zs y)))) (near (zs ++ x ∷ outer) z ≡ near (zs ++ y ∷ outer) (pick t y z))
-      go true e = let both = and_parts (same x z) (not (has zs x)) e in renamed_says z both.0 (not-true (has zs x) both.1)
-      go false e = other_says z e
+  var_says z = grind (arith, renamed_says, not-true, other_says)
 
 choice_says : (r s t : Bool) {a b c d e f : Bare} → Says r (a ≡ d) → Says s (b ≡ e) → Says t (c ≡ f) →
     Says (r && (s && t)) (b_choice a b c ≡ b_choice d e f)
-choice_says r s t {a} {b} {c} {d} {e} {f} in_a in_b in_c =
-    says_and {Q = (b ≡ e) × (c ≡ f)} r (s && t) (λ p q i. b_choice (p i) (q.0 i) (q.1 i)) (λ h. cc) (λ h. ((cc), (cc))) in_a
-    (says_and s t (λ p q. (p, q)) (λ h. h.0) (λ h. h.1) in_b in_c)
+choice_says r s t {a} {b} {c} {d} {e} {f} in_a in_b in_c = grind arith
 
 -- The check says whether the bare forms are the same, under whatever is given on the way and around.
 mutual

@@ -1,10 +1,10 @@
 -- What stands at a place made a function leaves what the program means. The new function is added first, which nothing calls yet; then its call is
 -- put at the place, and runs as what stood there does wherever the names are given. Assumes nothing.
-use Rattle.std.proofs.Common.{◌≡◌, ℕ, suc, Bool, true, false, not, eqb, leb, List, [], ◌∷◌, ◌++◌, length, sym, refl, ap, ◌∙◌, subst, ap₂, arith}
+use Rattle.std.proofs.Common.{◌≡◌, ℕ, suc, Bool, true, false, eqb, leb, List, [], ◌∷◌, ◌++◌, length, sym, refl, ap, ◌∙◌, subst, ap₂, arith}
 use mathlib.Core.Path.{fun_ext}
 use borrow.Author.Tests.{clash}
 use Rattle.std.proofs.lemmas.Bool.{eq-eqb}
-use Rattle.language.specs.Basics.{pick, or, any, every, none_of, same}
+use Rattle.language.specs.Basics.{pick, or, any, every, same}
 use Rattle.language.specs.Bytes.{Name}
 use Rattle.language.specs.Expr.{Expr, call, Fun, Program, main}
 use Rattle.language.specs.Meaning.{wrong, Bound, look, fun_of, looked, binds, cames, more_cames, and_cames, eval_all, called, step, eval}
@@ -48,7 +48,7 @@ values_and r ds x xs v here rest =
   where
     go : (y : Name) (t : Bool) → same x y ≡ t → or (same y x) (has xs y) ≡ true → pick t (v ∷ []) (look (binds xs rest.values) y) ≡ look ds y
     go y true e h = sym here ∙ ap (look ds) (same_eq x y e)
-    go y false e h = rest.agree y (sym (ap (λ t. or t (has xs y)) (same_sym y x ∙ e)) ∙ h)
+    go y false e h = grind (arith, same_sym)
 
 values_of : (r : Program) (ds : List Bound) (xs : List Name) → Given xs ds → Values r ds xs
 unfolding eval_all vars
@@ -67,7 +67,7 @@ module _ (r : Program) (y : Name) (e : Expr) (gs : List Fun) (found : fun_of r y
       unfold eval step in
       ap₂ (called (λ cs c. eval (suc n) r cs c)) found (vs.run n)
       ∙ unfold called in pick_left (eqb (length vs.values) (length (free e))) _ (wrong 3 [])
-      (eq-eqb (length vs.values) (length (free e)) vs.as_many)
+      (eq-eqb _ _ vs.as_many)
       ∙ after_none (eval (suc n) r (binds (free e) vs.values) e)
       ∙ eval_agree (suc n) r (binds (free e) vs.values) ds e vs.agree
     where
@@ -90,17 +90,12 @@ found_other (f ∷ fs) g h d = ap (pick (same f.name h) (f ∷ [])) (found_other
 
 found-added : (p : Program) (g : Fun) → there p g.name ≡ false → fun_of (p ++ g ∷ []) g.name ≡ g ∷ []
 unfolding fun_of
-found-added [] g d = pick_left (same g.name g.name) (g ∷ []) [] (same_refl g.name)
-found-added (f ∷ fs) g d = go (same f.name g.name) d (found-added fs g)
-  where
-    go : (t : Bool) → not (none_of (pick t (f ∷ []) (fun_of fs g.name))) ≡ false →
-        (there fs g.name ≡ false → fun_of (fs ++ g ∷ []) g.name ≡ g ∷ []) → pick t (f ∷ []) (fun_of (fs ++ g ∷ []) g.name) ≡ g ∷ []
-    go true d ih = absurd (clash (sym d))
-    go false d ih = ih d
+found-added [] g d = grind (arith, same_refl)
+found-added (f ∷ fs) g d = grind (arith, found-added fs g)
 
 set-added : (p : Program) (x : Name) (g h : Fun) → same h.name x ≡ false → set_fun (p ++ h ∷ []) x g ≡ set_fun p x g ++ h ∷ []
 set-added [] x g h d = ap (λ k. k ∷ []) (pick_right (same h.name x) g h d)
-set-added (f ∷ fs) x g h d = ap (◌∷◌ (pick (same f.name x) g f)) (set-added fs x g h d)
+set-added (f ∷ fs) x g h d = grind (arith, set-added fs x g h d)
 
 -- nothing calls what is added, so it is no matter
 added_mean : (p : Program) (g : Fun) → taken p g.name ≡ false → MeanSame p (p ++ g ∷ [])
@@ -111,10 +106,10 @@ added_mean p g new =
     y = g.name
 
     not_main : same y main ≡ false
-    not_main = or_left_false (same y main) (or (there p y) (any (calling y) p)) new
+    not_main = or_left_false _ _ new
 
     not_known : or (there p y) (any (calling y) p) ≡ false
-    not_known = or_right_false (same y main) (or (there p y) (any (calling y) p)) new
+    not_known = grind arith
 
     recalls : Recalls y y p (p ++ g ∷ [])
     recalls =
@@ -134,20 +129,16 @@ module _ (p : Program) (f : Fun) (fs : List Fun) (found : fun_of p f.name ≡ f 
   calling_it = with_body f (put_at f.body ks (call y (vars (free e))))
 
   not_there : there p y ≡ false
-  not_there = or_left_false (there p y) (any (calling y) p) (or_right_false (same y main) (or (there p y) (any (calling y) p)) new)
+  not_there = or_left_false _ _ (or_right_false _ _ new)
 
   other : same y f.name ≡ false
-  other = go (same y f.name) refl
-    where
-      go : (t : Bool) → same y f.name ≡ t → same y f.name ≡ false
-      go true k = absurd (clash (sym not_there ∙ ap (λ x. there p x) (same_eq y f.name k) ∙ ap (λ gs. not (none_of gs)) found))
-      go false k = k
+  other = grind (arith, same_eq)
 
   in_added : fun_of added y ≡ made_fun y e ∷ []
   in_added = found-added p (made_fun y e) not_there
 
   in_after : fun_of (set_fun added f.name calling_it) y ≡ made_fun y e ∷ []
-  in_after = set_other added f.name y calling_it refl (same_sym f.name y ∙ other) ∙ in_added
+  in_after = grind (arith, set_other, same_sym, other, in_added)
 
   its_names : (ds : List Bound) → Given (given_at f.params f.body ks) ds → Given (free e) ds
   its_names ds given x h = given x (every-has (given_at f.params f.body ks) (free e) closed x h)

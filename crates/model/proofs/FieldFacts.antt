@@ -1,19 +1,19 @@
 -- The fields of a command are read from the front of what is spelled, and what is read was spelled there. Assumes nothing.
-use Rattle.std.proofs.Common.{◌≡◌, ℕ, ◌+◌, ◌-◌, ◌≤◌, Bool, true, false, ◌&&◌, ltb, leb, List, [], ◌∷◌, ◌++◌, length, take, drop, Some, None, Option, sym, refl, ap, ◌∙◌, subst, ap₂, arith, le-leb, leb-true}
+use Rattle.std.proofs.Common.{◌≡◌, ℕ, ◌+◌, ◌-◌, ◌≤◌, Bool, true, false, ltb, List, [], ◌∷◌, ◌++◌, length, take, drop, Some, None, Option, sym, ap, ◌∙◌, subst, ap₂, arith, leb-true}
 use borrow.Author.Tests.{clash}
 use Rattle.std.specs.List.{between}
-use Rattle.std.proofs.lemmas.List.{length-append, length-drop, length-take-le, drop_at}
-use Rattle.std.proofs.lemmas.Bool.{and_parts, and_from}
-use Rattle.language.specs.Basics.{pick, every}
+use Rattle.std.proofs.lemmas.List.{length-append, length-take-le, drop_at}
+use Rattle.std.proofs.lemmas.Bool.{and_parts}
+use Rattle.language.specs.Basics.{pick}
 use Rattle.language.specs.Bytes.{eight, with_length, all_bytes}
 use Rattle.language.specs.Fits.{a_name}
-use Rattle.language.specs.Reading.{found, number_at, name_end}
+use Rattle.language.specs.Reading.{found}
 use Rattle.language.proofs.ListFacts.{every_drop}
-use Rattle.language.proofs.ReadingFacts.{found_some, pick_some}
+use Rattle.language.proofs.ReadingFacts.{found_some}
 use Rattle.language.proofs.StandsFacts.{Stands, stands-first, stands-second, stands_join, stands-taken, taken-stands, length-eight, number_stands, NumberThere, number_there}
 use Rattle.language.proofs.HeadFacts.{length_with, name-stands, name_bytes, name_there}
 use Rattle.model.specs.Command.{place_spelled, a_place}
-use Rattle.model.specs.Reading.{Field, field, name_in, index_in, place_of, place_in}
+use Rattle.model.specs.Reading.{Field, field, name_in, index_in, place_in}
 
 -- what a field's reader owes: it reads what is spelled so and fits, and nothing else
 pub record Fields (read_field : List ℕ → Option Field) (spell : List ℕ → List ℕ) (ok : List ℕ → Bool) : Type 0 where
@@ -21,7 +21,7 @@ pub record Fields (read_field : List ℕ → Option Field) (spell : List ℕ →
   pub was : (bs : List ℕ) (f : Field) → all_bytes bs ≡ true → read_field bs ≡ Some f → (ok f.value ≡ true) × (bs ≡ spell f.value ++ f.rest) × (all_bytes f.rest ≡ true)
 
 pub front-stands : (p rest : List ℕ) → Stands (p ++ rest) 0 p
-front-stands p rest = ap (λ r. p ++ r) (sym (drop_at p rest (0 + length p) (omega arith)))
+front-stands p rest = grind (arith, drop_at)
 
 -- what stands at the beginning and ends at j, and what comes after it
 pub front_is : (bs p : List ℕ) (j : ℕ) → Stands bs 0 p → j ≡ 0 + length p → bs ≡ p ++ drop j bs
@@ -29,7 +29,7 @@ front_is bs p j s e = s ∙ ap (λ k. p ++ drop k bs) (sym e)
 
 name_was : (bs : List ℕ) (f : Field) → all_bytes bs ≡ true → name_in bs ≡ Some f → (a_name f.value ≡ true) × (bs ≡ with_length f.value ++ f.rest) × (all_bytes f.rest ≡ true)
 name_was bs f bytes e =
-    let got = found_some (name_end bs 0) (λ j. Some (field (between 8 j bs) (drop j bs))) f e in
+    let got = found_some _ _ _ e in
     let j = got.0 in
     let n = name_there bs 0 j bytes got.1 in
     let is : field (between 8 j bs) (drop j bs) ≡ f = cc got.2 in
@@ -59,10 +59,7 @@ index_read (i ∷ k ∷ ks) rest h = absurd (clash h)
 
 index_was : (bs : List ℕ) (f : Field) → all_bytes bs ≡ true → index_in bs ≡ Some f → (an_index f.value ≡ true) × (bs ≡ f.value ++ f.rest) × (all_bytes f.rest ≡ true)
 index_was [] f bytes e = let z : ◌≡◌ {A = ℕ} 0 1 = cc in absurd (omega arith)
-index_was (i ∷ bs) f bytes e =
-    let kept = pick_some (ltb i 16) (field (i ∷ []) bs) f e in
-    subst (λ (g : Field). (an_index g.value ≡ true) × (i ∷ bs ≡ g.value ++ g.rest) × (all_bytes g.rest ≡ true)) kept.1
-    (kept.0, refl, (and_parts (ltb i 256) (all_bytes bs) bytes).1)
+index_was (i ∷ bs) f bytes e = grind arith
 
 pub index_fields : Fields index_in (λ x. x) an_index
 index_fields = record { read = index_read; was = index_was }
@@ -80,50 +77,21 @@ module _ (ks rest : List ℕ) (fit : a_place ks ≡ true) where
   place-long : length (place_spelled ks) ≡ 8 + length ks
   place-long = omega (arith, length-append (eight (length ks)) ks, length-eight (length ks))
 
-  few : length ks ≤ 4096
-  few = leb-true _ _ (and_parts (leb (length ks) 4096) (every (λ k. ltb k 16) ks) fit).0
-
   place_read : place_in (place_spelled ks ++ rest) ≡ Some (field ks rest)
-  place_read =
-      ap (λ o. found o (λ n. place_of n (place_spelled ks ++ rest)))
-      (number_stands (place_spelled ks ++ rest) 0 (length ks) (omega (arith, few)) (stands-first (place_spelled ks ++ rest) 0 (eight (length ks)) ks place-row))
-      ∙ ap₂ (λ t r. pick t (Some (field (between 8 (8 + length ks) (place_spelled ks ++ rest)) r)) None) test (drop_at (place_spelled ks) rest (8 + length ks) place-long)
-      ∙ ap (λ x. Some (field x rest)) place_numbers
-    where
-      test : ((leb (length ks) 4096 && leb (8 + length ks) (length (place_spelled ks ++ rest))) && every (λ k. ltb k 16) (between 8 (8 + length ks) (place_spelled ks ++ rest))) ≡ true
-      test =
-          and_from _ _ (and_from _ _ (le-leb _ _ few) (le-leb (8 + length ks) (length (place_spelled ks ++ rest)) (omega (arith, place-long, length-append (place_spelled ks) rest))))
-          (ap (every (λ k. ltb k 16)) place_numbers ∙ (and_parts (leb (length ks) 4096) (every (λ k. ltb k 16) ks) fit).1)
+  place_read = grind (arith, number_stands, stands-first, place-row, drop_at, place-long, place_numbers, length-append)
 
 module _ (bs : List ℕ) (n : ℕ) (there : NumberThere bs 0 n) (room : 8 + n ≤ length bs) where
   numbers_long : length (between 8 (8 + n) bs) ≡ n
-  numbers_long =
-      ap (λ k. length (take k (drop 8 bs))) (let z : 8 + n - 8 ≡ n = omega arith in z) ∙ length-take-le n (drop 8 bs) (omega (arith, length-drop 8 bs))
+  numbers_long = grind (arith, length-take-le)
 
   numbers_stand : Stands bs 0 (place_spelled (between 8 (8 + n) bs))
-  numbers_stand =
-      stands_join bs 0 (eight (length (between 8 (8 + n) bs))) (between 8 (8 + n) bs) (subst (λ k. Stands bs 0 (eight k)) (sym numbers_long) there.stands)
-      (subst (λ k. Stands bs k (between 8 (8 + n) bs)) (omega (arith, length-eight (length (between 8 (8 + n) bs)))) (taken-stands bs 8 (8 + n - 8) (between 8 (8 + n) bs) (omega (arith, numbers_long)) refl))
+  numbers_stand = grind (arith, stands_join, numbers_long, length-eight, taken-stands)
 
   numbers_front : bs ≡ place_spelled (between 8 (8 + n) bs) ++ drop (8 + n) bs
-  numbers_front =
-      front_is bs (place_spelled (between 8 (8 + n) bs)) (8 + n) numbers_stand
-      (omega (arith, numbers_long, length-eight (length (between 8 (8 + n) bs)), length-append (eight (length (between 8 (8 + n) bs))) (between 8 (8 + n) bs)))
+  numbers_front = grind (arith, numbers_stand, numbers_long, length-eight, length-append)
 
 place_was : (bs : List ℕ) (f : Field) → all_bytes bs ≡ true → place_in bs ≡ Some f → (a_place f.value ≡ true) × (bs ≡ place_spelled f.value ++ f.rest) × (all_bytes f.rest ≡ true)
-place_was bs f bytes e =
-    let got = found_some (number_at bs 0) (λ n. place_of n bs) f e in
-    let n = got.0 in
-    let kept = pick_some ((leb n 4096 && leb (8 + n) (length bs)) && every (λ k. ltb k 16) (between 8 (8 + n) bs)) (field (between 8 (8 + n) bs) (drop (8 + n) bs)) f got.2 in
-    let all = and_parts (leb n 4096 && leb (8 + n) (length bs)) (every (λ k. ltb k 16) (between 8 (8 + n) bs)) kept.0 in
-    let sizes = and_parts (leb n 4096) (leb (8 + n) (length bs)) all.0 in
-    let there = number_there bs 0 n bytes got.1 in
-    let room : 8 + n ≤ length bs = leb-true _ _ sizes.1 in
-    subst (λ (g : Field). (a_place g.value ≡ true) × (bs ≡ place_spelled g.value ++ g.rest) × (all_bytes g.rest ≡ true)) kept.1 (
-      and_from _ _ (ap (λ k. leb k 4096) (numbers_long bs n there room) ∙ sizes.0) all.1,
-      numbers_front bs n there room,
-      every_drop (λ b. ltb b 256) (8 + n) bs bytes,
-    )
+place_was bs f bytes e = grind (arith, and_parts, number_there, leb-true, numbers_long, numbers_front, every_drop)
 
 pub place_fields : Fields place_in place_spelled a_place
 place_fields = record { read = place_read; was = place_was }

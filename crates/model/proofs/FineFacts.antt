@@ -1,15 +1,14 @@
 -- Programs stay fine: functions keep different names, and so do each function's own. A function put in place keeps its name, one that is added or
 -- renamed gets a name that none has, and what is free in an expression comes once. Assumes nothing.
-use Rattle.std.proofs.Common.{◌≡◌, ℕ, ◌≤◌, Bool, true, false, not, leb, List, [], ◌∷◌, ◌++◌, length, sym, refl, ap, ◌∙◌, ap₂, leb-true}
+use Rattle.std.proofs.Common.{arith, ◌≡◌, ℕ, ◌≤◌, Bool, true, false, not, List, [], ◌∷◌, ◌++◌, length, sym, refl, ap, ◌∙◌, ap₂}
 use Rattle.std.proofs.lemmas.Bool.{and_parts, and_from, not-true, not_from_false}
-use Rattle.language.specs.Basics.{pick, or, any, every, each, those, same}
+use Rattle.language.specs.Basics.{pick, or, every, each, those, same}
 use Rattle.language.specs.Bytes.{Name}
-use Rattle.language.specs.Expr.{Expr, num, var, bin, call, bind, choice, tell, Exprs, no_exprs, expr_and, Fun, Program, main}
+use Rattle.language.specs.Expr.{Expr, num, var, bin, call, bind, choice, tell, Exprs, no_exprs, expr_and, Fun, Program}
 use Rattle.language.specs.Names.{has, joined, less, free, free_all, distinct}
 use Rattle.language.specs.Spelling.{program_spelled}
-use Rattle.language.proofs.NameFacts.{same_eq, same_sym, or_false, or_left_false, or_right_false, has-append}
+use Rattle.language.proofs.NameFacts.{same_eq, same_sym, or_left_false, or_right_false, has-append}
 use Rattle.language.proofs.ListFacts.{every_append, every-those, every-each, each_append}
-use Rattle.language.proofs.FitFacts.{pick_true}
 use Rattle.language.proofs.ProgramFits.{found-every, program_fits}
 use Rattle.model.specs.Command.{Command, load, show, names, rename_bind, rename_param, rename_fun, extract, inline_bind, inline_call, turn_cond, drop_fun, undo, fits}
 use Rattle.model.specs.State.{Plain, Turn, set_fun, fine}
@@ -17,7 +16,6 @@ use Rattle.model.specs.FunctionNames.{there, taken, fun_renamed}
 use Rattle.model.specs.Extract.{made_fun}
 use Rattle.model.specs.Statements.{StaysFine}
 use Rattle.model.proofs.RenameFacts.{names_of}
-use Rattle.model.proofs.FunctionNamesFacts.{calling}
 use Rattle.model.proofs.FunctionNamesMeaning.{none_there, renamed_apart}
 use Rattle.model.proofs.TurnFacts.{Standing, put_body, Made, Ended, refuses, looks, loads, goes_back, makes, turn-ends}
 
@@ -26,26 +24,21 @@ abbrev own_apart : Program → Bool
 own_apart p = every (λ f. distinct f.params) p
 
 fine-parts : (p : Program) → fine p ≡ true → (distinct (names_of p) ≡ true) × (own_apart p ≡ true)
-fine-parts p h = and_parts (distinct (names_of p)) (own_apart p) h
-
-fine_from : (p : Program) → distinct (names_of p) ≡ true → own_apart p ≡ true → fine p ≡ true
-fine_from p h k = and_from (distinct (names_of p)) (own_apart p) h k
+fine-parts p h = and_parts _ _ h
 
 -- a name more, which is none of the others
 distinct_push : (xs : List Name) (y : Name) → distinct xs ≡ true → has xs y ≡ false → distinct (xs ++ y ∷ []) ≡ true
 unfolding distinct
 distinct_push [] y h new = refl
 distinct_push (x ∷ xs) y h new =
-    and_from (not (has (xs ++ y ∷ []) x)) (distinct (xs ++ y ∷ [])) (not_from_false _ apart)
-    (distinct_push xs y both.1 (or_right_false (same y x) (has xs y) new))
+    and_from _ _ (not_from_false _ apart)
+    (distinct_push xs y both.1 (or_right_false _ _ new))
   where
     both : (not (has xs x) ≡ true) × (distinct xs ≡ true)
-    both = and_parts (not (has xs x)) (distinct xs) h
+    both = and_parts _ _ h
 
     apart : has (xs ++ y ∷ []) x ≡ false
-    apart =
-        has-append xs (y ∷ []) x ∙ ap (λ t. or t (or (same x y) false)) (not-true (has xs x) both.0) ∙ or_false (same x y) ∙ same_sym x y
-        ∙ or_left_false (same y x) (has xs y) new
+    apart = grind (arith, has-append, same_sym)
 
 distinct-joined : (xs ys : List Name) → distinct xs ≡ true → distinct (joined xs ys) ≡ true
 unfolding joined
@@ -83,13 +76,10 @@ set-names (f ∷ fs) x g h = ap₂ ◌∷◌ (go (same f.name x) refl) (set-name
     go false e = refl
 
 pub set-every : (P : Fun → Bool) (p : Program) (x : Name) (g : Fun) → every P p ≡ true → P g ≡ true → every P (set_fun p x g) ≡ true
-set-every P p x g h k = every-each P P (λ f. pick (same f.name x) g f) (λ f e. pick_true P (same f.name x) g f k e) p h
+set-every P p x g h k = grind (arith, every-each)
 
 set-fine : (p : Program) (g : Fun) → fine p ≡ true → distinct g.params ≡ true → fine (set_fun p g.name g) ≡ true
-set-fine p g h k =
-    let was = fine-parts p h in
-    fine_from (set_fun p g.name g) (ap distinct (set-names p g.name g refl) ∙ was.0)
-    (set-every (λ f. distinct f.params) p g.name g was.1 k)
+set-fine p g h k = grind (arith, set-names, set-every)
 
 put_fine : (p : Program) (x : Name) (ks : List ℕ) (e : Expr) → fine p ≡ true → (at : Standing p x ks) → fine (put_body p at.fun ks e) ≡ true
 put_fine p x ks e h at =
@@ -102,13 +92,10 @@ not_named (f ∷ fs) x h =
     let none = none_there f fs x h in ap₂ or (same_sym x f.name ∙ none.0) (not_named fs x none.1)
 
 push_fine : (p : Program) (g : Fun) → fine p ≡ true → has (names_of p) g.name ≡ false → distinct g.params ≡ true → fine (p ++ g ∷ []) ≡ true
-push_fine p g h new k =
-    let was = fine-parts p h in
-    fine_from (p ++ g ∷ []) (ap distinct (each_append (λ f. f.name) p (g ∷ [])) ∙ distinct_push (names_of p) g.name was.0 new)
-    (every_append (λ f. distinct f.params) p (g ∷ []) was.1 (and_from (distinct g.params) true k refl))
+push_fine p g h new k = grind (arith, each_append, distinct_push, every_append)
 
 free-name : (p : Program) (y : Name) → taken p y ≡ false → there p y ≡ false
-free-name p y h = or_left_false (there p y) (any (calling y) p) (or_right_false (same y main) (or (there p y) (any (calling y) p)) h)
+free-name p y h = or_left_false _ _ (or_right_false _ _ h)
 
 -- a function called something else: its new name is as different from the others as its old one
 renamed-has : (p : Program) (x y n : Name) → there p y ≡ false → same n y ≡ false →
@@ -126,23 +113,20 @@ unfolding distinct
 renamed-distinct [] x y new h = refl
 renamed-distinct (f ∷ fs) x y new h =
     let none = none_there f fs y new in
-    let both = and_parts (not (has (names_of fs) f.name)) (distinct (names_of fs)) h in
-    and_from (not (has (names_of (each (fun_renamed x y) fs)) (pick (same f.name x) y f.name))) (distinct (names_of (each (fun_renamed x y) fs)))
+    let both = and_parts _ _ h in
+    and_from _ _
     (ap not (renamed-has fs x y f.name none.1 none.0) ∙ both.0) (renamed-distinct fs x y none.1 both.1)
 
 renamed-fine : (p : Program) (x y : Name) → fine p ≡ true → there p y ≡ false → fine (each (fun_renamed x y) p) ≡ true
-renamed-fine p x y h new =
-    let was = fine-parts p h in
-    fine_from (each (fun_renamed x y) p) (renamed-distinct p x y new was.0)
-    (every-each (λ f. distinct f.params) (λ f. distinct f.params) (fun_renamed x y) (λ f e. e) p was.1)
+renamed-fine p x y h new = grind (arith, renamed-distinct, every-each)
 
 -- some functions left out
 those_unnamed : (q : Fun → Bool) (p : Program) (x : Name) → has (names_of p) x ≡ false → has (names_of (those q p)) x ≡ false
 those_unnamed q [] x h = refl
-those_unnamed q (f ∷ fs) x h = go (q f) (those_unnamed q fs x (or_right_false (same x f.name) (has (names_of fs) x) h))
+those_unnamed q (f ∷ fs) x h = go (q f) (those_unnamed q fs x (or_right_false _ _ h))
   where
     go : (t : Bool) → has (names_of (those q fs)) x ≡ false → has (names_of (pick t (f ∷ those q fs) (those q fs))) x ≡ false
-    go true ih = ap₂ or (or_left_false (same x f.name) (has (names_of fs) x) h) ih
+    go true ih = ap₂ or (or_left_false _ _ h) ih
     go false ih = ih
 
 those-distinct : (q : Fun → Bool) (p : Program) → distinct (names_of p) ≡ true → distinct (names_of (those q p)) ≡ true
@@ -151,18 +135,16 @@ those-distinct q [] h = refl
 those-distinct q (f ∷ fs) h = go (q f) (those-distinct q fs both.1)
   where
     both : (not (has (names_of fs) f.name) ≡ true) × (distinct (names_of fs) ≡ true)
-    both = and_parts (not (has (names_of fs) f.name)) (distinct (names_of fs)) h
+    both = and_parts _ _ h
 
     go : (t : Bool) → distinct (names_of (those q fs)) ≡ true → distinct (names_of (pick t (f ∷ those q fs) (those q fs))) ≡ true
     go true ih =
-        and_from (not (has (names_of (those q fs)) f.name)) (distinct (names_of (those q fs)))
+        and_from _ _
         (not_from_false _ (those_unnamed q fs f.name (not-true _ both.0))) ih
     go false ih = ih
 
 those-fine : (q : Fun → Bool) (p : Program) → fine p ≡ true → fine (those q p) ≡ true
-those-fine q p h =
-    let was = fine-parts p h in
-    fine_from (those q p) (those-distinct q p was.0) (every-those (λ f. distinct f.params) q p was.1)
+those-fine q p h = grind (arith, those-distinct, every-those)
 
 pub made-fine : (w : Plain) (c : Command) (p : Program) → fine w.now ≡ true → Made w c p → fine p ≡ true
 made-fine w (load q) p h m = absurd m
@@ -170,7 +152,7 @@ made-fine w (show x) p h m = absurd m
 made-fine w names p h m = absurd m
 made-fine w (rename_bind x ks y) p h m = ap fine m.made ∙ put_fine w.now x ks _ h m.at
 made-fine w (rename_param x i y) p h m = ap fine m.made ∙ set-fine w.now _ h m.apart
-made-fine w (rename_fun x y) p h m = ap fine m.made ∙ renamed-fine w.now x y h (free-name w.now y m.new)
+made-fine w (rename_fun x y) p h m = grind (arith, renamed-fine)
 made-fine w (extract x ks y) p h m =
     let called = put_body w.now m.at.fun ks _ in
     ap fine m.made
@@ -180,7 +162,7 @@ made-fine w (extract x ks y) p h m =
 made-fine w (inline_bind x ks) p h m = ap fine m.made ∙ put_fine w.now x ks _ h m.at
 made-fine w (inline_call x ks) p h m = ap fine m.made ∙ put_fine w.now x ks _ h m.at
 made-fine w (turn_cond x ks) p h m = ap fine m.made ∙ put_fine w.now x ks _ h m.at
-made-fine w (drop_fun x) p h m = ap fine m.made ∙ those-fine (λ f. not (same f.name x)) w.now h
+made-fine w (drop_fun x) p h m = grind (arith, those-fine)
 made-fine w undo p h m = absurd m
 
 pub stays_fine : StaysFine
@@ -190,11 +172,5 @@ stays_fine w c fit is_fine short were-fine were-short = go (turn-ends w c)
     go (refuses k h) = (is_fine, short)
     go (looks ss h) = (is_fine, short)
     go (loads p is h) = (h, (program_fits p (unfold fits in (sym (ap fits is) ∙ fit))).2)
-    go (goes_back p ps is was) =
-        let fine_were = ap (every fine) (sym was) ∙ were-fine in
-        let short_were = ap (every (λ q. leb (length (program_spelled q)) 65536)) (sym was) ∙ were-short in (
-          (and_parts (fine p) (every fine ps) fine_were).0,
-          leb-true (length (program_spelled p)) 65536
-              (and_parts (leb (length (program_spelled p)) 65536) (every (λ q. leb (length (program_spelled q)) 65536) ps) short_were).0,
-        )
+    go (goes_back p ps is was) = grind arith
     go (makes p m few small) = (made-fine w c p is_fine m, small)

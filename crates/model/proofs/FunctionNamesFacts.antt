@@ -1,21 +1,20 @@
 -- A run in a program whose functions have other names: as long as nothing calls the new name, what is called by its new name
 -- comes to what it came to. A function that is dropped is one that keeps its name and that nothing calls. Assumes nothing.
-use Rattle.std.proofs.Common.{◌≡◌, ℕ, zero, suc, Bool, true, false, eqb, List, [], ◌∷◌, length, sym, refl, ap, ◌∙◌, ap₂}
+use Rattle.std.proofs.Common.{arith, ◌≡◌, ℕ, zero, suc, Bool, false, eqb, List, [], ◌∷◌, sym, refl, ap, ◌∙◌, ap₂}
 use mathlib.Core.Path.{fun_ext}
 use Rattle.language.specs.Basics.{pick, any, each, same}
 use Rattle.language.specs.Bytes.{Name}
 use Rattle.language.specs.Expr.{Expr, num, var, bin, call, bind, choice, tell, Exprs, no_exprs, expr_and, Fun, Program}
-use Rattle.language.specs.Meaning.{came, wrong, Bound, fun_of, reckon, after_telling, then, binds, Cames, cames, wrongs, deeps, more_cames, and_cames, Ev, eval_all, called, step, eval, apply}
+use Rattle.language.specs.Meaning.{came, Bound, fun_of, reckon, then, Cames, cames, wrongs, deeps, Ev, eval_all, called, step, eval, apply}
 use Rattle.language.specs.Names.{has, joined}
 use Rattle.language.proofs.NameFacts.{same_eq, same_sym, or_left_false, or_right_false, has-joined}
 use Rattle.model.specs.FunctionNames.{recalled, recalled_all, fun_renamed, calls, calls_all}
-use Rattle.model.proofs.SetFacts.{pick_right}
 
 pub out_left : (xs ys : List Name) (x : Name) → has (joined xs ys) x ≡ false → has xs x ≡ false
-out_left xs ys x h = or_left_false (has xs x) (has ys x) (sym (has-joined xs ys x) ∙ h)
+out_left xs ys x h = or_left_false _ _ (sym (has-joined xs ys x) ∙ h)
 
 pub out_right : (xs ys : List Name) (x : Name) → has (joined xs ys) x ≡ false → has ys x ≡ false
-out_right xs ys x h = or_right_false (has xs x) (has ys x) (sym (has-joined xs ys x) ∙ h)
+out_right xs ys x h = or_right_false _ _ (sym (has-joined xs ys x) ∙ h)
 
 -- nothing in it calls y
 abbrev pub Uncalled : Name → Expr → Type 0
@@ -32,18 +31,14 @@ module _ (x y : Name) (ev ew : Ev) (alike : SameRecalled x y ev ew) where
   all-recalled : (bs : List Bound) (es : Exprs) → has (calls_all es) y ≡ false → eval_all (ev bs) es ≡ eval_all (ew bs) (recalled_all x y es)
   unfolding eval_all calls_all recalled_all
   all-recalled bs no_exprs h = refl
-  all-recalled bs (expr_and e es) h =
-      ap₂ and_cames (alike bs e (out_left (calls e) (calls_all es) y h))
-      (fun_ext λ v. fun_ext λ ts. ap (more_cames v ts) (all-recalled bs es (out_right (calls e) (calls_all es) y h)))
+  all-recalled bs (expr_and e es) h = grind (arith, out_left, all-recalled bs es (out_right (calls e) (calls_all es) y h))
 
   called-recalled : (fs : List Fun) (cs : Cames) → any (calling y) fs ≡ false → called ev fs cs ≡ called ew (each (fun_renamed x y) fs) cs
   unfolding called
   called-recalled [] (cames vs ts) h = refl
   called-recalled [] (wrongs k ts) h = refl
   called-recalled [] deeps h = refl
-  called-recalled (f ∷ fs) (cames vs ts) h =
-      ap (λ c. pick (eqb (length vs) (length f.params)) (after_telling ts c) (wrong 3 ts))
-      (alike (binds f.params vs) f.body (or_left_false (calling y f) (any (calling y) fs) h))
+  called-recalled (f ∷ fs) (cames vs ts) h = grind arith
   called-recalled (f ∷ fs) (wrongs k ts) h = refl
   called-recalled (f ∷ fs) deeps h = refl
 
@@ -55,8 +50,7 @@ pub record Recalls (x y : Name) (p q : Program) : Type 0 where
 module _ (x y : Name) (p q : Program) (to : Recalls x y p q) where
   calls_same : (ev ew : Ev) → SameRecalled x y ev ew → (h : Name) (cs ds : Cames) → same y h ≡ false → cs ≡ ds →
       called ev (fun_of p h) cs ≡ called ew (fun_of q (pick (same x h) y h)) ds
-  calls_same ev ew alike h cs ds other e =
-      called-recalled x y ev ew alike (fun_of p h) cs (to.uncalled h other) ∙ ap₂ (called ew) (sym (to.finds h other)) e
+  calls_same ev ew alike h cs ds other e = grind (arith, called-recalled)
 
   step-recalled : (ev ew : Ev) → SameRecalled x y ev ew → SameRecalled x y (step p ev) (step q ew)
   unfolding step calls recalled
@@ -68,7 +62,7 @@ module _ (x y : Name) (p q : Program) (to : Recalls x y p q) where
       ap₂ then in_a (fun_ext λ v. ap (λ c. then c (λ u. reckon k v u)) in_b)
   step-recalled ev ew alike bs (call g es) h =
       calls_same ev ew alike g (eval_all (ev bs) es) (eval_all (ew bs) (recalled_all x y es))
-      (or_left_false (same y g) false (out_left (g ∷ []) (calls_all es) y h))
+      (or_left_false _ _ (out_left (g ∷ []) (calls_all es) y h))
       (all-recalled x y ev ew alike bs es (out_right (g ∷ []) (calls_all es) y h))
   step-recalled ev ew alike bs (bind z a b) h =
       ap₂ then (alike bs a (out_left (calls a) (calls b) y h)) (fun_ext λ v. alike _ b (out_right (calls a) (calls b) y h))
@@ -86,17 +80,11 @@ module _ (x y : Name) (p q : Program) (to : Recalls x y p q) where
   eval-recalled (suc n) bs e h = step-recalled (eval n p) (eval n q) (eval-recalled n) bs e h
 
   pub apply-recalled : (n : ℕ) (g : Name) (vs : List ℕ) → same x g ≡ false → same y g ≡ false → apply n p g vs ≡ apply n q g vs
-  apply-recalled n g vs not_x not-y =
-      calls_same (eval n p) (eval n q) (eval-recalled n) g (cames vs []) (cames vs []) not-y refl
-      ∙ ap (λ z. apply n q z vs) (pick_right (same x g) y g not_x)
+  apply-recalled n g vs not_x not-y = grind (arith, calls_same, eval-recalled)
 
 -- a name in place of itself
 pick_self : (x h : Name) → pick (same x h) x h ≡ h
-pick_self x h = go (same x h) refl
-  where
-    go : (t : Bool) → same x h ≡ t → pick t x h ≡ h
-    go true e = same_eq x h e
-    go false e = refl
+pick_self x h = grind (arith, same_eq)
 
 mutual
   unfolding recalled recalled_all
@@ -115,8 +103,7 @@ mutual
   all_self (expr_and e es) x = ap₂ expr_and (recalled_self e x) (all_self es x)
 
 pub renamed_self : (x : Name) (f : Fun) → fun_renamed x x f ≡ f
-renamed_self x f =
-    λ i. record { name = (ap (λ t. pick t x f.name) (same_sym f.name x) ∙ pick_self x f.name) i; params = f.params; body = recalled_self f.body x i }
+renamed_self x f = grind (arith, same_sym, pick_self, recalled_self)
 
 pub each_self : (x : Name) (fs : List Fun) → each (fun_renamed x x) fs ≡ fs
 each_self x [] = refl

@@ -1,8 +1,7 @@
 -- Calling a function something else, and dropping one that nothing calls, leave what the program means as it was: at every depth
 -- the new program's main comes to what the old one's did. Assumes nothing.
-use Rattle.std.proofs.Common.{◌≡◌, Bool, true, false, not, ◌&&◌, List, [], ◌∷◌, sym, refl, ap, ◌∙◌}
-use borrow.Author.Tests.{clash}
-use Rattle.language.specs.Basics.{pick, or, any, each, those, none_of, same}
+use Rattle.std.proofs.Common.{arith, ◌≡◌, Bool, true, false, not, List, [], ◌∷◌, sym, refl, ap, ◌∙◌}
+use Rattle.language.specs.Basics.{pick, or, any, each, those, same}
 use Rattle.language.specs.Bytes.{Name}
 use Rattle.language.specs.Expr.{Fun, Program, main}
 use Rattle.language.specs.Meaning.{fun_of}
@@ -19,44 +18,26 @@ use Rattle.model.proofs.FunctionNamesFacts.{calling, Recalls, apply-recalled, ea
 pub found_none : (P : Fun → Bool) (p : Program) (x : Name) → any P p ≡ false → any P (fun_of p x) ≡ false
 unfolding fun_of
 found_none P [] x h = refl
-found_none P (f ∷ fs) x h = go (same f.name x) (found_none P fs x (or_right_false (P f) (any P fs) h))
+found_none P (f ∷ fs) x h = go (same f.name x) (found_none P fs x (or_right_false _ _ h))
   where
     go : (t : Bool) → any P (fun_of fs x) ≡ false → any P (pick t (f ∷ []) (fun_of fs x)) ≡ false
-    go true ih = ap (λ t. or t false) (or_left_false (P f) (any P fs) h)
+    go true ih = ap (λ t. or t false) (or_left_false _ _ h)
     go false ih = ih
 
 -- no function is called so: neither the first nor one of the others
 pub none_there : (f : Fun) (fs : List Fun) (y : Name) → there (f ∷ fs) y ≡ false → (same f.name y ≡ false) × (there fs y ≡ false)
 unfolding fun_of
-none_there f fs y h = go (same f.name y) refl h
-  where
-    go : (t : Bool) → same f.name y ≡ t → not (none_of (pick t (f ∷ []) (fun_of fs y))) ≡ false → (same f.name y ≡ false) × (there fs y ≡ false)
-    go true e h = absurd (clash (sym h))
-    go false e h = (e, h)
+none_there f fs y h = grind arith
 
 -- names that are not y are as different as before where x is called y
 pub renamed_apart : (x y g h : Name) → same g y ≡ false → same y h ≡ false → same (pick (same g x) y g) (pick (same x h) y h) ≡ same g h
-renamed_apart x y g h not-g not-h = go (same g x) (same x h) refl refl
-  where
-    go : (s t : Bool) → same g x ≡ s → same x h ≡ t → same (pick s y g) (pick t y h) ≡ same g h
-    go true true p q = same_refl y ∙ sym (same_refl h) ∙ ap (λ z. same z h) (sym (same_eq g x p ∙ same_eq x h q))
-    go true false p q = not-h ∙ sym q ∙ ap (λ z. same z h) (sym (same_eq g x p))
-    go false true p q = not-g ∙ sym p ∙ ap (same g) (same_eq x h q)
-    go false false p q = refl
+renamed_apart x y g h not-g not-h = grind (arith, same_refl, same_eq)
 
 found-renamed : (p : Program) (x y h : Name) → there p y ≡ false → same y h ≡ false →
     fun_of (each (fun_renamed x y) p) (pick (same x h) y h) ≡ each (fun_renamed x y) (fun_of p h)
 unfolding fun_of
 found-renamed [] x y h new other = refl
-found-renamed (g ∷ gs) x y h new other =
-    ap (λ t. pick t (fun_renamed x y g ∷ []) (fun_of (each (fun_renamed x y) gs) (pick (same x h) y h)))
-    (renamed_apart x y g.name h (none_there g gs y new).0 other)
-    ∙ go (same g.name h) (found-renamed gs x y h (none_there g gs y new).1 other)
-  where
-    go : (t : Bool) → fun_of (each (fun_renamed x y) gs) (pick (same x h) y h) ≡ each (fun_renamed x y) (fun_of gs h) →
-        pick t (fun_renamed x y g ∷ []) (fun_of (each (fun_renamed x y) gs) (pick (same x h) y h)) ≡ each (fun_renamed x y) (pick t (g ∷ []) (fun_of gs h))
-    go true ih = refl
-    go false ih = ih
+found-renamed (g ∷ gs) x y h new other = grind (arith, renamed_apart, found-renamed gs x y h (none_there g gs y new).1)
 
 renamed_recalls : (p : Program) (x y : Name) → there p y ≡ false → any (calling y) p ≡ false → Recalls x y p (each (fun_renamed x y) p)
 renamed_recalls p x y new uncalled =
@@ -76,7 +57,7 @@ fun_mean w x y = kept-fun w x _ (λ f fs found. kept-pick w (same x main) (no 6 
     means not_main free =
         let new = or_right_false (same y main) (or (there p y) (any (calling y) p)) free in
         let to = renamed_recalls p x y (or_left_false (there p y) (any (calling y) p) new) (or_right_false (there p y) (any (calling y) p) new) in
-        kept-now w q (λ small. mean_same_deep p q (λ n vs. apply-recalled x y p q to n main vs not_main (or_left_false (same y main) _ free)))
+        kept-now w q (λ small. mean_same_deep p q (λ n vs. apply-recalled x y p q to n main vs not_main (or_left_false _ _ free)))
 
     free-name : same x main ≡ false → Kept w (pick (taken p y) (no 4 w) (now_is w q))
     free-name not_main = kept-pick w (taken p y) (no 4 w) (now_is w q) (λ e. kept-refused w 4) (means not_main)
@@ -87,23 +68,16 @@ without x p = those (λ h. not (same h.name x)) p
 found-without : (p : Program) (x h : Name) → same x h ≡ false → fun_of (without x p) h ≡ fun_of p h
 unfolding fun_of without
 found-without [] x h other = refl
-found-without (g ∷ gs) x h other = go (same g.name x) refl (found-without gs x h other)
-  where
-    go : (t : Bool) → same g.name x ≡ t → fun_of (without x gs) h ≡ fun_of gs h →
-        fun_of (pick (not t) (g ∷ without x gs) (without x gs)) h ≡ pick (same g.name h) (g ∷ []) (fun_of gs h)
-    go true e ih = ih ∙ sym (pick_right (same g.name h) (g ∷ []) (fun_of gs h) (ap (λ z. same z h) (same_eq g.name x e) ∙ other))
-    go false e ih = ap (pick (same g.name h) (g ∷ [])) ih
+found-without (g ∷ gs) x h other = grind (arith, same_eq, found-without gs x h other)
 
 without_uncalled : (p : Program) (x h : Name) → same x h ≡ false → still_called p x ≡ false → any (calling x) (fun_of p h) ≡ false
 unfolding fun_of
 without_uncalled [] x h other free = refl
 without_uncalled (g ∷ gs) x h other free =
-    go (same g.name h) refl (without_uncalled gs x h other (or_right_false (not (same g.name x) && calling x g) (still_called gs x) free))
+    go (same g.name h) refl (without_uncalled gs x h other (or_right_false _ _ free))
   where
     own : same g.name h ≡ true → calling x g ≡ false
-    own e =
-        let not_x = ap (λ z. same z x) (same_eq g.name h e) ∙ same_sym h x ∙ other in
-        ap (λ t. not t && calling x g) (sym not_x) ∙ or_left_false (not (same g.name x) && calling x g) (still_called gs x) free
+    own e = grind (arith, same_eq, same_sym)
 
     go : (t : Bool) → same g.name h ≡ t → any (calling x) (fun_of gs h) ≡ false → any (calling x) (pick t (g ∷ []) (fun_of gs h)) ≡ false
     go true e ih = ap (λ t. or t false) (own e)
@@ -124,7 +98,7 @@ drop_mean w x =
   where
     means : or (same x main) (still_called w.now x) ≡ false → Kept w (now_is w (without x w.now))
     means free =
-        let not_main = or_left_false (same x main) (still_called w.now x) free in
+        let not_main = or_left_false _ _ free in
         let to = dropped_recalls w.now x (or_right_false (same x main) (still_called w.now x) free) in
         kept-now w (without x w.now)
         (λ small. mean_same_deep w.now (without x w.now) (λ n vs. apply-recalled x x w.now (without x w.now) to n main vs not_main not_main))

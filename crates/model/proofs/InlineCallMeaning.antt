@@ -2,7 +2,7 @@
 -- new one do: each is shown of the other at the depths below. Assumes nothing.
 use Rattle.std.proofs.Common.{◌≡◌, ℕ, zero, suc, ◌<◌, ◌≤◌, Bool, true, false, ◌&&◌, eqb, List, [], ◌∷◌, length, sym, refl, ap, ◌∙◌, arith, eqb-true}
 use Rattle.std.proofs.lemmas.Bool.{and_parts}
-use Rattle.language.specs.Basics.{every, each, same}
+use Rattle.language.specs.Basics.{every, same}
 use Rattle.language.specs.Bytes.{Name}
 use Rattle.language.specs.Expr.{Expr, num, var, bin, call, bind, choice, tell, Exprs, Fun, Program, exprs_in}
 use Rattle.language.specs.Meaning.{Bound, fun_of, binds}
@@ -92,9 +92,7 @@ module _ (p : Program) (f : Fun) (fs : List Fun) (found : fun_of p f.name ≡ f 
       (ap (λ k. every (has k.params) (free k.body)) (sym it) ∙ closed) n ds
     where
       it : h ≡ f
-      it =
-          let found-same : f ∷ fs ≡ h ∷ hs = sym found ∙ ap (fun_of p) (same_eq f.name g d) ∙ found_called in
-          cc
+      it = grind (arith, same_eq)
 
   forth : (t : Bool) → same f.name g ≡ t → (n : ℕ) (ds : List Bound) → Run n after ds (call g es) after ds new
   forth true d = same_forth d
@@ -121,17 +119,17 @@ kept_inlined w good f fs found g ks es os stands [] found_called = kept-refused 
 kept_inlined w good f fs found g ks es os stands (h ∷ hs) found_called =
     kept-pick w (eqb (length (exprs_in es)) (length h.params) && every (has h.params) (free h.body))
     (put_if w f ks (binds_of h.params (exprs_in es) h.body)) (no 5 w)
-    (λ t. kept_lets w f fs found g h hs found_called ks es os stands (eqb-true (length (exprs_in es)) (length h.params) (both t).0)
+    (λ t. kept_lets w f fs found g h hs found_called ks es os stands (eqb-true _ _ (both t).0)
     (found-every (λ k. distinct k.params) w.now g h hs params_differ found_called) (both t).1
     (binds_of h.params (exprs_in es) h.body) refl)
     (λ t. kept-refused w 5)
   where
     params_differ : every (λ k. distinct k.params) w.now ≡ true
-    params_differ = (and_parts (distinct (each (λ k. k.name) w.now)) (every (λ k. distinct k.params) w.now) good).1
+    params_differ = grind arith
 
     both : (eqb (length (exprs_in es)) (length h.params) && every (has h.params) (free h.body)) ≡ true →
         (eqb (length (exprs_in es)) (length h.params) ≡ true) × (every (has h.params) (free h.body) ≡ true)
-    both t = and_parts (eqb (length (exprs_in es)) (length h.params)) (every (has h.params) (free h.body)) t
+    both t = and_parts _ _ t
 
 pub call_mean : (w : Plain) (x : Name) (ks : List ℕ) → fine w.now ≡ true → Kept w (turn w (inline_call x ks))
 unfolding turn call_inlined

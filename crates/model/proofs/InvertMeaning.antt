@@ -1,10 +1,10 @@
 -- An if turned the other way round means the same: its condition is told from 0 once more, and its arms change places. Assumes nothing.
-use Rattle.std.proofs.Common.{◌≡◌, ℕ, suc, Bool, true, false, eqb, List, [], ◌∷◌, sym, refl, ap, ◌∙◌, subst, append-nil, arith}
+use Rattle.std.proofs.Common.{rules, ◌≡◌, ℕ, suc, eqb, List, ◌∷◌, sym, subst, arith}
 use mathlib.Core.Path.{fun_ext}
 use Rattle.language.specs.Basics.{pick}
 use Rattle.language.specs.Bytes.{Name}
 use Rattle.language.specs.Expr.{Expr, num, var, bin, call, bind, choice, tell, Fun, Program}
-use Rattle.language.specs.Meaning.{Came, came, wrong, deep, Bound, fun_of, truth, after_telling, then, step, eval}
+use Rattle.language.specs.Meaning.{Bound, fun_of, after_telling, then, step, eval}
 use Rattle.language.specs.Places.{at_place}
 use Rattle.language.proofs.Reach.{Reach, Run, later, sooner, then_reach, pick_reach, run_self, run_down}
 use Rattle.model.specs.Command.{turn_cond}
@@ -14,24 +14,12 @@ use Rattle.model.specs.Model.{turn}
 use Rattle.model.proofs.Kept.{Kept, kept-refused}
 use Rattle.model.proofs.KeptPlace.{kept_at, kept_put}
 
-then-value : (c : Came) (g : ℕ → ℕ) (f : ℕ → Came) → then (then c (λ v. came (g v) [])) f ≡ then c (λ v. f (g v))
-unfolding then after_telling
-then-value (came v ts) g f = ap (λ us. after_telling us (f (g v))) (append-nil ts)
-then-value (wrong k ts) g f = refl
-then-value deep g f = refl
-
-other_arm : {A : Type 0} (t : Bool) (a b : A) → pick (eqb (truth t) 0) a b ≡ pick t b a
-other_arm true a b = refl
-other_arm false a b = refl
-
 -- the condition, and then the same arm
 turned : (m : ℕ) (r : Program) (ds : List Bound) (c a b : Expr) →
     eval (suc (suc (suc m))) r ds (if_turned c a b)
     ≡ then (eval (suc m) r ds c) (λ v. pick (eqb v 0) (eval (suc (suc m)) r ds b) (eval (suc (suc m)) r ds a))
 unfolding eval step then after_telling
-turned m r ds c a b =
-    then-value (eval (suc m) r ds c) (λ v. truth (eqb v 0)) (λ v. pick (eqb v 0) (eval (suc (suc m)) r ds a) (eval (suc (suc m)) r ds b))
-    ∙ ap (then (eval (suc m) r ds c)) (fun_ext λ v. other_arm (eqb v 0) (eval (suc (suc m)) r ds a) (eval (suc (suc m)) r ds b))
+turned m r ds c a b = search rules
 
 module _ (r : Program) (n : ℕ) (ds : List Bound) (c a b : Expr) where
   reach_turned : Reach (eval (suc n) r ds (choice c a b)) (λ m. eval (suc (suc (suc m))) r ds (if_turned c a b))

@@ -1,21 +1,21 @@
 -- A call as lets: the values one after the other, each where the names before it are given too, and then the function's expression.
 -- Assumes nothing.
-use Rattle.std.proofs.Common.{◌≡◌, ℕ, suc, Bool, true, false, not, eqb, List, [], ◌∷◌, length, sym, refl, ap, ◌∙◌, subst, arith}
+use Rattle.std.proofs.Common.{◌≡◌, ℕ, suc, Bool, true, false, List, [], ◌∷◌, length, sym, refl, ap, ◌∙◌, subst, arith}
 use mathlib.Core.Path.{fun_ext}
 use borrow.Author.Tests.{clash}
-use Rattle.std.proofs.lemmas.Bool.{eq-eqb, and_parts, not-true}
-use Rattle.language.specs.Basics.{pick, or, any, every, same}
+use Rattle.std.proofs.lemmas.Bool.{and_parts}
+use Rattle.language.specs.Basics.{pick, any, every, same}
 use Rattle.language.specs.Bytes.{Name}
 use Rattle.language.specs.Expr.{Expr, call, bind, Exprs, no_exprs, expr_and, Fun, Program, exprs_in}
 use Rattle.language.specs.Meaning.{Came, came, wrong, deep, Bound, look, fun_of, after_telling, then, binds, Cames, cames, wrongs, deeps, more_cames, and_cames, Ev, eval_all, called, step, eval}
 use Rattle.language.specs.Names.{has, free, distinct}
-use Rattle.language.proofs.NameFacts.{same_eq, same_sym, or_false, or_left_false, or_right_false, every-has}
+use Rattle.language.proofs.NameFacts.{same_eq, same_sym, or_left_false, or_right_false, every-has}
 use Rattle.language.proofs.FreeFacts.{Agree, agree_without, eval_agree}
 use Rattle.language.proofs.Depth.{after_none, after-twice}
 use Rattle.language.proofs.Reach.{Reach, Run, later, then_reach, run_down}
 use Rattle.language.proofs.AlikeRuns.{alike-eval}
 use Rattle.model.specs.Inline.{with_bind, binds_of}
-use Rattle.model.proofs.SetFacts.{pick_left, pick_right}
+use Rattle.model.proofs.SetFacts.{pick_right}
 use Rattle.model.proofs.PutForRuns.{First, first-map}
 
 -- something done with values, once they are there
@@ -64,9 +64,7 @@ all_sized ev (expr_and e es) = and_sized (length (exprs_in es)) (ev e) (eval_all
 called-all : (ev : Ev) (h : Fun) (hs : List Fun) (c : Cames) → Sized (length h.params) c →
     called ev (h ∷ hs) c ≡ with_all c (λ vs. ev (binds h.params vs) h.body)
 unfolding called with_all
-called-all ev h hs (cames vs ts) l =
-    pick_left (eqb (length vs) (length h.params)) (after_telling ts (ev (binds h.params vs) h.body)) (wrong 3 ts)
-    (eq-eqb (length vs) (length h.params) l)
+called-all ev h hs (cames vs ts) l = grind arith
 called-all ev h hs (wrongs i ts) l = refl
 called-all ev h hs deeps l = refl
 
@@ -81,8 +79,8 @@ unfolding bound look
 bound_other [] vs cs y h = refl
 bound_other (x ∷ xs) [] cs y h = refl
 bound_other (x ∷ xs) (v ∷ vs) cs y h =
-    bound_other xs vs (record { name = x; value = v } ∷ cs) y (or_right_false (same y x) (has xs y) h)
-    ∙ pick_right (same x y) (v ∷ []) (look cs y) (same_sym x y ∙ or_left_false (same y x) (has xs y) h)
+    bound_other xs vs (record { name = x; value = v } ∷ cs) y (or_right_false _ _ h)
+    ∙ pick_right (same x y) (v ∷ []) (look cs y) (same_sym x y ∙ or_left_false _ _ h)
 
 -- names that differ have what a call gives them
 bound_agree : (xs : List Name) (vs : List ℕ) (cs : List Bound) → length vs ≡ length xs → distinct xs ≡ true → Agree (bound xs vs cs) (binds xs vs) xs
@@ -90,21 +88,13 @@ unfolding bound look binds distinct
 bound_agree [] vs cs l d y h = absurd (clash h)
 bound_agree (x ∷ xs) [] cs l d y h = absurd (omega arith)
 bound_agree (x ∷ xs) (v ∷ vs) cs l d y h =
-    go (has xs y) refl (bound_agree xs vs (record { name = x; value = v } ∷ cs) (omega arith) (and_parts (not (has xs x)) (distinct xs) d).1 y)
+    go (has xs y) refl (bound_agree xs vs (record { name = x; value = v } ∷ cs) (omega arith) (and_parts _ _ d).1 y)
   where
     go : (t : Bool) → has xs y ≡ t →
         (has xs y ≡ true → look (bound xs vs (record { name = x; value = v } ∷ cs)) y ≡ look (binds xs vs) y) →
         look (bound xs vs (record { name = x; value = v } ∷ cs)) y ≡ pick (same x y) (v ∷ []) (look (binds xs vs) y)
-    go true e ih = ih e ∙ sym (pick_right (same x y) (v ∷ []) (look (binds xs vs) y) (apart (same x y) refl))
-      where
-        apart : (t : Bool) → same x y ≡ t → same x y ≡ false
-        apart true k =
-            absurd (clash (sym (not-true (has xs x) (and_parts (not (has xs x)) (distinct xs) d).0) ∙ ap (has xs) (same_eq x y k) ∙ e))
-        apart false k = k
-    go false e ih =
-        let it : same x y ≡ true = same_sym x y ∙ sym (or_false (same y x)) ∙ ap (or (same y x)) (sym e) ∙ h in
-        bound_other xs vs (record { name = x; value = v } ∷ cs) y e ∙ pick_left (same x y) (v ∷ []) (look cs y) it
-        ∙ sym (pick_left (same x y) (v ∷ []) (look (binds xs vs) y) it)
+    go true e ih = grind (arith, same_eq)
+    go false e ih = grind (arith, same_sym, bound_other)
 
 -- each of these expressions has the same values for its names in both
 abbrev Agrees : List Bound → List Bound → Exprs → Type 0
@@ -119,8 +109,8 @@ agrees_under : (x : Name) (v : ℕ) (cs ds : List Bound) (es : Exprs) → any (�
     Agrees (record { name = x; value = v } ∷ cs) ds es
 agrees_under x v cs ds no_exprs h a = tt
 agrees_under x v cs ds (expr_and e es) h a = (
-  λ y k. agree_without cs x v (free e) (or_left_false (has (free e) x) (any (λ b. has (free b) x) (exprs_in es)) h) y k ∙ a.0 y k,
-  agrees_under x v cs ds es (or_right_false (has (free e) x) (any (λ b. has (free b) x) (exprs_in es)) h) a.1,
+  λ y k. agree_without cs x v (free e) (or_left_false _ _ h) y k ∙ a.0 y k,
+  agrees_under x v cs ds es (or_right_false _ _ h) a.1,
 )
 
 one_let_forth : (n : ℕ) (r : Program) (ds cs : List Bound) (x : Name) (e c : Expr) (W : ℕ → Came) → Agree cs ds (free e) →
@@ -194,17 +184,12 @@ module _ (r : Program) (g : Name) (h : Fun) (hs : List Fun) (found : fun_of r g 
   call-all : (n : ℕ) (ds : List Bound) →
       eval (suc n) r ds (call g es) ≡ with_all (eval_all (λ e. eval n r ds e) es) (λ vs. eval n r (binds h.params vs) h.body)
   unfolding eval step
-  call-all n ds =
-      ap (λ fs. called (λ cs e. eval n r cs e) fs (eval_all (λ e. eval n r ds e) es)) found
-      ∙ called-all (λ cs e. eval n r cs e) h hs (eval_all (λ e. eval n r ds e) es)
-      (subst (λ l. Sized l (eval_all (λ e. eval n r ds e) es)) as_many (all_sized (λ e. eval n r ds e) es))
+  call-all n ds = grind (arith, called-all, all_sized)
 
   -- b comes to the same under the lets as with what a call gives
   lets_binds : (n : ℕ) (vs : List ℕ) (ds : List Bound) → length vs ≡ length h.params →
       eval n r (bound h.params vs ds) b ≡ eval n r (binds h.params vs) b
-  lets_binds n vs ds l =
-      eval_agree n r (bound h.params vs ds) (binds h.params vs) b
-      (λ y k. bound_agree h.params vs ds l apart y (every-has h.params (free b) closed y k))
+  lets_binds n vs ds l = grind (arith, eval_agree, bound_agree, every-has)
 
   pub call_forth : (n : ℕ) (ds : List Bound) →
       ((vs : List ℕ) → length vs ≡ length h.params → Run n r (binds h.params vs) h.body r (binds h.params vs) b) →

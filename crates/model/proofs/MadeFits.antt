@@ -1,7 +1,7 @@
 -- What a refactoring makes of what fits, fits: calls renamed, what is free, what is put for a name, and a call as lets. Each goes part by part.
 -- Assumes nothing.
-use Rattle.std.proofs.Common.{◌≡◌, ℕ, zero, suc, ◌≤◌, Bool, true, false, ◌&&◌, leb, List, [], ◌∷◌, ◌++◌, length, refl, ap, ◌∙◌}
-use Rattle.std.proofs.lemmas.Bool.{and_parts, and_from, le-leb}
+use Rattle.std.proofs.Common.{arith, ◌≡◌, ℕ, zero, suc, ◌≤◌, Bool, true, false, ◌&&◌, leb, List, [], ◌∷◌, ◌++◌, length, refl, ap, ◌∙◌}
+use Rattle.std.proofs.lemmas.Bool.{and_parts, and_from}
 use Rattle.language.specs.Basics.{pick, any, every, same}
 use Rattle.language.specs.Bytes.{Name}
 use Rattle.language.specs.Expr.{Expr, num, var, bin, call, bind, choice, tell, Exprs, no_exprs, expr_and, count_exprs}
@@ -19,10 +19,10 @@ use Rattle.model.proofs.PutForRuns.{First, both_first}
 pub put_name_fit : (xs : List Name) (i : ℕ) (y : Name) → every a_name xs ≡ true → a_name y ≡ true → every a_name (put_name xs i y) ≡ true
 unfolding put_name
 put_name_fit [] i y h k = refl
-put_name_fit (x ∷ xs) zero y h k = and_from (a_name y) (every a_name xs) k (and_parts (a_name x) (every a_name xs) h).1
+put_name_fit (x ∷ xs) zero y h k = and_from _ _ k (and_parts _ _ h).1
 put_name_fit (x ∷ xs) (suc i) y h k =
-    let both = and_parts (a_name x) (every a_name xs) h in
-    and_from (a_name x) (every a_name (put_name xs i y)) both.0 (put_name_fit xs i y both.1 k)
+    let both = and_parts _ _ h in
+    and_from _ _ both.0 (put_name_fit xs i y both.1 k)
 
 recalled_count : (x y : Name) (es : Exprs) → count_exprs (recalled_all x y es) ≡ count_exprs es
 unfolding count_exprs recalled_all
@@ -56,15 +56,15 @@ mutual
   recalled_all_fit no_exprs x y fit_y h = refl
   recalled_all_fit (expr_and e es) x y fit_y h =
       let was = exprs_fit e es h in
-      and_from (an_expr (recalled x y e)) (all_exprs (recalled_all x y es)) (recalled_fit e x y fit_y was.0) (recalled_all_fit es x y fit_y was.1)
+      and_from _ _ (recalled_fit e x y fit_y was.0) (recalled_all_fit es x y fit_y was.1)
 
 joined_fit : (xs ys : List Name) → every a_name xs ≡ true → every a_name ys ≡ true → every a_name (joined xs ys) ≡ true
 unfolding joined
 joined_fit xs [] h k = h
 joined_fit xs (y ∷ ys) h k =
-    let both = and_parts (a_name y) (every a_name ys) k in
+    let both = and_parts _ _ k in
     joined_fit (pick (has xs y) xs (xs ++ y ∷ [])) ys
-    (pick_true (every a_name) (has xs y) xs (xs ++ y ∷ []) h (every_append a_name xs (y ∷ []) h (and_from (a_name y) true both.0 refl))) both.1
+    (pick_true (every a_name) (has xs y) xs (xs ++ y ∷ []) h (every_append a_name xs (y ∷ []) h (and_from _ _ both.0 refl))) both.1
 
 -- names that are free in what fits
 mutual
@@ -72,7 +72,7 @@ mutual
 
   pub free_fit : (e : Expr) → an_expr e ≡ true → every a_name (free e) ≡ true
   free_fit (num n) h = refl
-  free_fit (var x) h = and_from (a_name x) true h refl
+  free_fit (var x) h = and_from _ _ h refl
   free_fit (bin k a b) h = let was = bin_fit k a b h in joined_fit (free a) (free b) (free_fit a was.1) (free_fit b was.2)
   free_fit (call f es) h = free_all_fit es (call_fit f es h).2
   free_fit (bind x a b) h =
@@ -97,10 +97,10 @@ vars_count (x ∷ xs) = ap suc (vars_count xs)
 vars_fit : (xs : List Name) → every a_name xs ≡ true → all_exprs (vars xs) ≡ true
 unfolding vars all_exprs an_expr
 vars_fit [] h = refl
-vars_fit (x ∷ xs) h = let both = and_parts (a_name x) (every a_name xs) h in and_from (a_name x) (all_exprs (vars xs)) both.0 (vars_fit xs both.1)
+vars_fit (x ∷ xs) h = let both = and_parts _ _ h in and_from _ _ both.0 (vars_fit xs both.1)
 
 pub call_vars_fit : (f : Name) (xs : List Name) → a_name f ≡ true → length xs ≤ 16 → every a_name xs ≡ true → an_expr (call f (vars xs)) ≡ true
-call_vars_fit f xs named few own = fit_call f (vars xs) named (ap (λ n. leb n 16) (vars_count xs) ∙ le-leb (length xs) 16 few) (vars_fit xs own)
+call_vars_fit f xs named few own = grind (arith, fit_call, vars_count, vars_fit)
 
 abbrev pub Fit : Expr → Type 0
 Fit e = an_expr e ≡ true
@@ -126,7 +126,7 @@ and_first : (e : Expr) (es : Exprs) (l : List Expr) (m : List Exprs) → First F
 unfolding all_exprs count_exprs
 and_first e es [] m h k = tt
 and_first e es (a ∷ as₁) [] h k = tt
-and_first e es (a ∷ as₁) (ds ∷ dss) h k = (and_from (an_expr a) (all_exprs ds) h k.0, ap suc k.1)
+and_first e es (a ∷ as₁) (ds ∷ dss) h k = (and_from _ _ h k.0, ap suc k.1)
 
 bind-first : (z : Name) → a_name z ≡ true → (l m : List Expr) → First Fit l → First Fit m → First Fit (both_of l m (λ c d. bind z c d))
 bind-first z named l m h k = both_first Fit Fit Fit (λ c d. bind z c d) (λ c d p q. fit_bind z c d named p q) l m h k
@@ -175,10 +175,10 @@ lets_fit (x ∷ xs) (e ∷ es) b named fit h =
     (go (binds_of xs es b) (lets_fit xs es b names_fit.1 values_fit.1 h))
   where
     names_fit : (a_name x ≡ true) × (every a_name xs ≡ true)
-    names_fit = and_parts (a_name x) (every a_name xs) named
+    names_fit = and_parts _ _ named
 
     values_fit : (an_expr e ≡ true) × (every an_expr es ≡ true)
-    values_fit = and_parts (an_expr e) (every an_expr es) fit
+    values_fit = and_parts _ _ fit
 
     go : (l : List Expr) → First Fit l → First Fit (with_bind x e l)
     go [] h = tt

@@ -1,10 +1,10 @@
 -- Where the names of uses stand, by an expression's head and its parts; each of them takes nine bytes at least. Assumes nothing.
-use Rattle.std.proofs.Common.{◌≡◌, ℕ, ◌+◌, ◌*◌, ◌≤◌, Bool, true, false, not, ◌&&◌, eqb, List, [], ◌∷◌, ◌++◌, length, sym, refl, ap, ap₂, arith}
+use Rattle.std.proofs.Common.{◌≡◌, ℕ, ◌+◌, ◌*◌, ◌≤◌, Bool, not, ◌&&◌, eqb, List, [], ◌∷◌, ◌++◌, length, sym, refl, ap, ap₂, arith}
 use Rattle.std.specs.List.{AllByRecursion}
 use Rattle.std.proofs.lemmas.List.{append-nil, length-append}
 use Rattle.language.specs.Basics.{pick, or, same, flat}
-use Rattle.language.specs.Bytes.{Name, with_length}
-use Rattle.language.specs.Expr.{Expr, num, var, bin, call, bind, choice, tell, Exprs, no_exprs, expr_and, exprs_in, count_exprs, parts}
+use Rattle.language.specs.Bytes.{Name}
+use Rattle.language.specs.Expr.{Expr, num, var, bin, call, bind, choice, tell, Exprs, no_exprs, expr_and, exprs_in, parts}
 use Rattle.language.specs.Spelling.{expr_spelled}
 use Rattle.language.specs.Heads.{Head, h_num, h_var, h_bin, h_call, h_bind, h_choice, h_tell, head_of, head_spelled}
 use Rattle.language.proofs.HeadFacts.{length_with}
@@ -25,10 +25,6 @@ given x h h_tell = h
 -- in part p
 abbrev pub given_in : Name → Bool → Head → ℕ → Bool
 given_in x h u p = pick (eqb p 1) (given x h u) h
-
-pub pick_same : {A : Type 0} (t : Bool) (a : A) → pick t a a ≡ a
-pick_same true a = refl
-pick_same false a = refl
 
 -- a head's own name, if it is a use that changes
 abbrev pub head_uses : Name → Bool → ℕ → Head → List ℕ
@@ -56,12 +52,10 @@ pub uses_node : (x : Name) (h : Bool) (i : ℕ) (e : Expr) →
 unfolding name_uses head_of parts
 uses_node x h i (num n) = refl
 uses_node x h i (var z) = sym (append-nil _)
-uses_node x h i (bin k a b) = ap (λ us. name_uses x h (parts_at i (h_bin k)) a ++ us) (sym (append-nil _))
-uses_node x h i (call f es) =
-    values_uses x h (given_in x h (h_call f (count_exprs es))) (λ p. pick_same (eqb p 1) h) 0 (parts_at i (h_call f (count_exprs es))) es
-uses_node x h i (bind z a b) = ap (λ us. name_uses x h (parts_at i (h_bind z)) a ++ us) (sym (append-nil _))
-uses_node x h i (choice c a b) =
-    ap (λ us. name_uses x h (parts_at i h_choice) c ++ (name_uses x h (parts_at i h_choice + length (expr_spelled c)) a ++ us)) (sym (append-nil _))
+uses_node x h i (bin k a b) = grind (arith, append-nil)
+uses_node x h i (call f es) = grind (arith, values_uses)
+uses_node x h i (bind z a b) = grind (arith, append-nil)
+uses_node x h i (choice c a b) = grind (arith, append-nil)
 uses_node x h i (tell a) = sym (append-nil _)
 
 -- nine bytes for each use
@@ -71,11 +65,7 @@ Nine x e = (h : Bool) (i : ℕ) → 9 * length (name_uses x h i e) ≤ length (e
 pub head_nine : (x : Name) (h : Bool) (i : ℕ) (u : Head) → 9 * length (head_uses x h i u) ≤ length (head_spelled u)
 unfolding head_spelled
 head_nine x h i (h_num n) = omega arith
-head_nine x h i (h_var z) = go (same x z && not h)
-  where
-    go : (t : Bool) → 9 * length (pick t ((i + 1) ∷ []) []) ≤ length (1 ∷ with_length z)
-    go true = omega (arith, length_with z)
-    go false = omega arith
+head_nine x h i (h_var z) = grind (arith, length_with)
 head_nine x h i (h_bin k) = omega arith
 head_nine x h i (h_call f k) = omega arith
 head_nine x h i (h_bind z) = omega arith
@@ -84,14 +74,7 @@ head_nine x h i h_tell = omega arith
 
 parts_nine : (x : Name) (es : List Expr) → AllByRecursion (Nine x) es → (g : ℕ → Bool) (p i : ℕ) → 9 * length (parts_uses x g p i es) ≤ length (flat expr_spelled es)
 parts_nine x [] ps g p i = omega arith
-parts_nine x (e ∷ es) ps g p i =
-    omega (
-      arith,
-      ps.0 (g p) i,
-      parts_nine x es ps.1 g (p + 1) (i + length (expr_spelled e)),
-      length-append (name_uses x (g p) i e) (parts_uses x g (p + 1) (i + length (expr_spelled e)) es),
-      length-append (expr_spelled e) (flat expr_spelled es),
-    )
+parts_nine x (e ∷ es) ps g p i = grind (arith, length-append, parts_nine x es ps.1 g (p + 1) (i + length (expr_spelled e)))
 
 pub uses_nine : (x : Name) (e : Expr) (h : Bool) (i : ℕ) → 9 * length (name_uses x h i e) ≤ length (expr_spelled e)
 uses_nine x = by_parts (Nine x) node_nine

@@ -1,6 +1,6 @@
 -- What ends put for a name's uses: what comes of it runs as before, with the name no longer given. The idea: wherever the name is used, what is
 -- put there ends with the name's value, since none of its own names is given anew on the way. Assumes nothing.
-use Rattle.std.proofs.Common.{◌≡◌, ℕ, Bool, true, false, not, ◌&&◌, List, [], ◌∷◌, sym, refl, ap, ◌∙◌, subst}
+use Rattle.std.proofs.Common.{arith, ◌≡◌, ℕ, Bool, true, false, not, ◌&&◌, List, [], ◌∷◌, sym, refl, ap, ◌∙◌, subst}
 use mathlib.Core.Path.{fun_ext}
 use Rattle.std.proofs.lemmas.Bool.{and_from}
 use borrow.Author.Tests.{clash}
@@ -15,7 +15,6 @@ use Rattle.language.proofs.Depth.{Under}
 use Rattle.language.proofs.Reach.{Reach, Run}
 use Rattle.language.proofs.AlikeRuns.{AlikeRun, AlikeRuns, alike-eval, alike-num, alike-var, alike-bin, alike-call, alike-bind, alike-choice, alike-tell, alikes_none, alikes_and}
 use Rattle.model.specs.Inline.{both_of, and_exprs, call_of, tell_of, cond_of, put_for, put_for_all}
-use Rattle.model.proofs.SetFacts.{pick_right}
 use Rattle.model.proofs.QuietFacts.{Ends, ends-under, var-ends}
 
 -- what a list has, if it has any
@@ -99,7 +98,7 @@ module _ (r : Program) (x : Name) (a : Expr) (v : ℕ) where
       not_it = same_sym z x ∙ d
 
       here_still : pick (same z x) (w ∷ []) (look bs x) ≡ v ∷ []
-      here_still = pick_right (same z x) (w ∷ []) (look bs x) not_it ∙ s.here
+      here_still = grind (arith, not_it)
 
       others_still : (y : Name) → same x y ≡ false → pick (same z y) (w ∷ []) (look bs y) ≡ pick (same z y) (w ∷ []) (look cs y)
       others_still y e = ap (pick (same z y) (w ∷ [])) (s.others y e)
@@ -111,7 +110,7 @@ module _ (r : Program) (x : Name) (a : Expr) (v : ℕ) where
       ends_still : has fs x ≡ true → Ends r (record { name = z; value = w } ∷ cs) a v
       ends_still h =
           subst (λ G. Reach (came v []) G) (fun_ext λ m. sym (free_matter r cs z w m a (free_of (has (free a) z) refl h apart)))
-          (s.ends (has-less z fs x ∙ and_from (not (same z x)) (has fs x) (ap not not_it) h))
+          (s.ends (has-less z fs x ∙ and_from _ _ (ap not not_it) h))
 
   -- where x is given anew, what stands there stays
   same-under : (z : Name) (w : ℕ) (fs : List Name) (bs cs : List Bound) (e : Expr) → same x z ≡ true → Stands r x a v fs bs cs →

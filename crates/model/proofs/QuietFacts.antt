@@ -1,5 +1,5 @@
 -- What is quiet comes to a number and tells nothing, in every program where its names are given: part by part. Assumes nothing.
-use Rattle.std.proofs.Common.{◌≡◌, ℕ, suc, ◌-◌, ◌≤◌, max, Bool, true, false, ◌&&◌, eqb, ltb, leb, List, [], ◌∷◌, length, sym, refl, ap, subst, arith, eqb-true, leb-true}
+use Rattle.std.proofs.Common.{◌≡◌, ℕ, suc, ◌-◌, ◌≤◌, Bool, true, false, eqb, ltb, leb, List, [], ◌∷◌, length, sym, refl, ap, subst, arith, eqb-true, leb-true}
 use borrow.Author.Tests.{clash}
 use Rattle.std.proofs.lemmas.Bool.{and_parts, ne_eqb}
 use Rattle.language.specs.Basics.{pick, or}
@@ -21,8 +21,7 @@ Ends r ds e v = Reach (came v []) (λ m. eval m r ds e)
 
 -- whatever an expression that ends comes to is its end
 pub ends-under : (r : Program) (ds : List Bound) (e : Expr) (v : ℕ) → Ends r ds e v → (n : ℕ) → Under (eval n r ds e) (came v [])
-ends-under r ds e v s n =
-    subst (Under (eval n r ds e)) (s.under (max n s.from) (omega arith)) (eval_up n (max n s.from) r ds e (omega arith))
+ends-under r ds e v s n = grind (arith, eval_up)
 
 -- differences and comparisons don't go wrong
 reckon-quiet : (k v w : ℕ) → or (eqb k 1) (leb 4 k) ≡ true → (u : ℕ) × (reckon k v w ≡ came u [])
@@ -41,8 +40,8 @@ reckon-quiet k v w h = go (eqb k 1) refl h
         by_kind false = (truth (ltb v w), refl)
 
     go : (t : Bool) → eqb k 1 ≡ t → or t (leb 4 k) ≡ true → (u : ℕ) × (reckon k v w ≡ came u [])
-    go true e h = (v - w, ap (λ i. reckon i v w) (eqb-true k 1 e))
-    go false e h = late (leb-true 4 k h)
+    go true e h = (v - w, ap (λ i. reckon i v w) (eqb-true _ _ e))
+    go false e h = late (leb-true _ _ h)
 
 bin-ends : (r : Program) (ds : List Bound) (k : ℕ) (a b : Expr) (v w u : ℕ) → Ends r ds a v → Ends r ds b w → reckon k v w ≡ came u [] →
     Ends r ds (bin k a b) u
@@ -83,8 +82,8 @@ unfolding quiet
 quiet-ends r gs ds g (num n) h = (n, num-ends r ds n h)
 quiet-ends r gs ds g (var x) h = ((g x h).0, var-ends r ds x (g x h).0 (g x h).1)
 quiet-ends r gs ds g (bin k a b) h =
-    let parts = and_parts (or (eqb k 1) (leb 4 k)) (quiet gs a && quiet gs b) h in
-    let both = and_parts (quiet gs a) (quiet gs b) parts.1 in
+    let parts = and_parts _ _ h in
+    let both = and_parts _ _ parts.1 in
     let first = quiet-ends r gs ds g a both.0 in
     let second = quiet-ends r gs ds g b both.1 in
     let whole = reckon-quiet k first.0 second.0 parts.0 in
@@ -92,8 +91,8 @@ quiet-ends r gs ds g (bin k a b) h =
 quiet-ends r gs ds g (call f es) h = absurd (clash h)
 quiet-ends r gs ds g (bind x a b) h = absurd (clash h)
 quiet-ends r gs ds g (choice c a b) h =
-    let parts = and_parts (quiet gs c) (quiet gs a && quiet gs b) h in
-    let both = and_parts (quiet gs a) (quiet gs b) parts.1 in
+    let parts = and_parts _ _ h in
+    let both = and_parts _ _ parts.1 in
     let test = quiet-ends r gs ds g c parts.0 in
     let first = quiet-ends r gs ds g a both.0 in
     let second = quiet-ends r gs ds g b both.1 in (

@@ -26,7 +26,7 @@ set-bare [] x f fs g d h e = refl
 set-bare (k ∷ ks) x f fs g d h e = go (same k.name x) refl h (λ found. set-bare ks x f fs g apart.1 found e)
   where
     apart : (not (has (names_of ks) k.name) ≡ true) × (distinct (names_of ks) ≡ true)
-    apart = and_parts (not (has (names_of ks) k.name)) (distinct (names_of ks)) d
+    apart = and_parts _ _ d
 
     go : (t : Bool) → same k.name x ≡ t → pick t (k ∷ []) (fun_of ks x) ≡ f ∷ fs →
         (fun_of ks x ≡ f ∷ fs → each bare_fun (set_fun ks x g) ≡ each bare_fun ks) →
@@ -68,7 +68,7 @@ mutual
   renamed_all_fit no_exprs x y fit_y h = refl
   renamed_all_fit (expr_and e es) x y fit_y h =
       let was = exprs_fit e es h in
-      and_from (an_expr (renamed x y e)) (all_exprs (renamed_all x y es)) (renamed_fit e x y fit_y was.0) (renamed_all_fit es x y fit_y was.1)
+      and_from _ _ (renamed_fit e x y fit_y was.0) (renamed_all_fit es x y fit_y was.1)
 
 pub put_name-long : (xs : List Name) (i : ℕ) (y : Name) → length (put_name xs i y) ≡ length xs
 unfolding put_name
@@ -80,10 +80,6 @@ pick-long : (t : Bool) (y z : Name) → length y ≤ 32 → length (pick t y z) 
 pick-long true y z h = omega arith
 pick-long false y z h = omega arith
 
-pick-spelled : (t : Bool) (a b : Expr) (n : ℕ) → length (expr_spelled a) ≤ n → length (expr_spelled b) ≤ n → length (expr_spelled (pick t a b)) ≤ n
-pick-spelled true a b n h k = h
-pick-spelled false a b n h k = k
-
 -- a name of at most 32 bytes in place of one of any length
 mutual
   unfolding renamed renamed_all exprs_spelled
@@ -94,9 +90,7 @@ mutual
   renamed-long (bin k a b) x y h =
       omega (arith, bin-long k a b, bin-long k (renamed x y a) (renamed x y b), renamed-long a x y h, renamed-long b x y h)
   renamed-long (call f es) x y h = omega (arith, call_long f es, call_long f (renamed_all x y es), renamed_all-long es x y h)
-  renamed-long (bind z a b) x y h =
-      let in_b = pick-spelled (same x z) b (renamed x y b) (41 * length (expr_spelled b)) (omega arith) (renamed-long b x y h) in
-      omega (arith, bind-long z a b, bind-long z (renamed x y a) (pick (same x z) b (renamed x y b)), renamed-long a x y h, in_b)
+  renamed-long (bind z a b) x y h = grind (arith, bind-long, renamed-long b x y h, renamed-long a x y h)
   renamed-long (choice c a b) x y h =
       omega (
         arith,

@@ -1,8 +1,7 @@
 -- Renaming what is bound leaves what the program means as it was: a function is put in place of one that is alike without names,
 -- so the program's bare form is what it was. Assumes nothing.
-use Rattle.std.proofs.Common.{◌≡◌, ℕ, ◌≤◌, true, ◌&&◌, ltb, List, [], ◌∷◌, length, sym, refl, ap, ◌∙◌, arith}
+use Rattle.std.proofs.Common.{◌≡◌, ℕ, ◌≤◌, true, ◌&&◌, List, [], ◌∷◌, length, sym, refl, ap, ◌∙◌, arith}
 use Rattle.std.proofs.lemmas.Bool.{and_parts}
-use Rattle.language.specs.Basics.{every}
 use Rattle.language.specs.Bytes.{Name}
 use Rattle.language.specs.Expr.{Expr, num, var, bin, call, bind, choice, tell, Fun}
 use Rattle.language.specs.Meaning.{fun_of}
@@ -17,13 +16,13 @@ use Rattle.language.proofs.BareSpelling.{alike-bare}
 use Rattle.language.proofs.FitFacts.{bind_fit, fit_bind}
 use Rattle.language.proofs.PlaceFits.{at_fit, put_fit}
 use Rattle.language.proofs.ProgramFits.{body_short, found-fits}
-use Rattle.model.specs.Command.{rename_bind, rename_param, a_place, fits}
+use Rattle.model.specs.Command.{rename_bind, rename_param, fits}
 use Rattle.model.specs.State.{Plain, no, now_is, with_body, set_fun, put_in, fine}
 use Rattle.model.specs.Rename.{renamed, bind_renamed, put_name, nth_name, param_renamed}
 use Rattle.model.specs.Model.{turn}
 use Rattle.model.proofs.SetFacts.{found_name, set_here}
 use Rattle.model.proofs.Kept.{Kept, kept-refused, kept-pick, kept-now, kept-fun, kept_expr}
-use Rattle.model.proofs.RenameFacts.{names_of, set-bare, renamed_fit, put_name-long}
+use Rattle.model.proofs.RenameFacts.{set-bare, renamed_fit, put_name-long}
 
 module _ (w : Plain) (x : Name) (f : Fun) (fs : List Fun) (is_fine : fine w.now ≡ true) (fit : a_program w.now ≡ true)
     (found : fun_of w.now x ≡ f ∷ fs) where
@@ -50,7 +49,7 @@ module _ (w : Plain) (x : Name) (f : Fun) (fs : List Fun) (is_fine : fine w.now 
   set-kept g named as_many fit-body same-bare =
       kept-now w (set_fun w.now f.name g)
       (λ small. mean_bare w.now (set_fun w.now f.name g) (sym (set-bare w.now f.name f fs g
-      (and_parts (distinct (names_of w.now)) (every (λ h. distinct h.params) w.now) is_fine).0 found-own
+      (and_parts _ _ is_fine).0 found-own
       (alike-fun g named as_many fit-body same-bare small))))
 
   bind-kept : (ks : List ℕ) (y : Name) → a_name y ≡ true → (e : Expr) (es : List Expr) → at_place f.body ks ≡ e ∷ es →
@@ -76,18 +75,18 @@ module _ (w : Plain) (x : Name) (f : Fun) (fs : List Fun) (is_fine : fine w.now 
       let g : Fun = record { name = f.name; params = put_name f.params i y; body = renamed z y f.body } in
       kept-pick w (distinct g.params && alike f.params f.body g.params g.body) (now_is w (set_fun w.now f.name g)) (no 5 w)
       (λ e. set-kept g refl (put_name-long f.params i y) (renamed_fit f.body z y fit_y own_fit.1)
-      (and_parts (distinct g.params) (alike f.params f.body g.params g.body) e).1) (λ e. kept-refused w 5)
+      (and_parts _ _ e).1) (λ e. kept-refused w 5)
 
 pub bind_mean : (w : Plain) (x : Name) (ks : List ℕ) (y : Name) → fits (rename_bind x ks y) ≡ true → fine w.now ≡ true → a_program w.now ≡ true →
     Kept w (turn w (rename_bind x ks y))
 unfolding turn fits
 bind_mean w x ks y fit-c is_fine fit =
-    let fit_y = (and_parts (a_name x) (a_name y) (and_parts (a_name x && a_name y) (a_place ks) fit-c).0).1 in
+    let fit_y = (and_parts _ _ (and_parts _ _ fit-c).0).1 in
     kept-fun w x _ (λ f fs found. kept_expr w f ks _ (bind-kept w x f fs is_fine fit found ks y fit_y))
 
 pub param_mean : (w : Plain) (x : Name) (i : ℕ) (y : Name) → fits (rename_param x i y) ≡ true → fine w.now ≡ true → a_program w.now ≡ true →
     Kept w (turn w (rename_param x i y))
 unfolding turn fits
 param_mean w x i y fit-c is_fine fit =
-    let fit_y = (and_parts (a_name x) (a_name y) (and_parts (a_name x && a_name y) (ltb i 16) fit-c).0).1 in
+    let fit_y = (and_parts _ _ (and_parts _ _ fit-c).0).1 in
     kept-fun w x _ (λ f fs found. param_kept w x f fs is_fine fit found i y fit_y (nth_name f.params i))

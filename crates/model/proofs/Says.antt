@@ -1,6 +1,5 @@
 -- Tests that say whether something holds: both directions at once, joined as the tests are. Assumes nothing.
-use Rattle.std.proofs.Common.{◌≡◌, Bool, true, false, ◌&&◌, sym, refl, ◌∙◌, ap₂}
-use borrow.Author.Tests.{clash}
+use Rattle.std.proofs.Common.{◌≡◌, Bool, true, false, ◌&&◌, sym, refl, ap₂}
 use Rattle.std.proofs.lemmas.Bool.{and_parts, and_from}
 
 -- the test is true just if P holds
@@ -10,15 +9,12 @@ Says t P = (t ≡ true → P) × (P → t ≡ true)
 pub says_true : {P : Type 0} (t : Bool) → t ≡ true → P → Says t P
 says_true t h p = (λ e. p, λ q. h)
 
-pub says_false : {P : Type 0} (t : Bool) → t ≡ false → (P → ⊥) → Says t P
-says_false t h no-p = (λ e. absurd (clash (sym h ∙ e)), λ p. absurd (no-p p))
-
 pub says_map : {P Q : Type 0} (t : Bool) → (P → Q) → (Q → P) → Says t P → Says t Q
 says_map t to from s = (λ e. to (s.0 e), λ q. s.1 (from q))
 
 pub says_and : {P Q R : Type 0} (s t : Bool) → (P → Q → R) → (R → P) → (R → Q) → Says s P → Says t Q → Says (s && t) R
 says_and s t to left right p q =
-    (λ e. to (p.0 (and_parts s t e).0) (q.0 (and_parts s t e).1), λ r. and_from s t (p.1 (left r)) (q.1 (right r)))
+    (λ e. to (p.0 (and_parts _ _ e).0) (q.0 (and_parts _ _ e).1), λ r. and_from _ _ (p.1 (left r)) (q.1 (right r)))
 
 pub says_same : {P : Type 0} (s t : Bool) → Says s P → Says t P → s ≡ t
 says_same true true p q = refl

@@ -1,6 +1,6 @@
 -- The bytes with the new name at each use that changes are those of the renamed expression. By induction over the expression: if what comes of the
 -- bytes after it is known, so is what comes of those from its start. Assumes nothing.
-use Rattle.std.proofs.Common.{◌≡◌, ℕ, suc, ◌+◌, Bool, true, false, not, ◌&&◌, eqb, List, [], ◌∷◌, ◌++◌, length, drop, sym, refl, ap, ◌∙◌, subst, ap₂, arith}
+use Rattle.std.proofs.Common.{◌≡◌, ℕ, suc, ◌+◌, Bool, true, false, not, ◌&&◌, List, [], ◌∷◌, ◌++◌, length, drop, sym, refl, ap, ◌∙◌, subst, arith}
 use Rattle.std.specs.List.{AllByRecursion}
 use Rattle.std.proofs.lemmas.List.{append_assoc, append-nil, length-append, drop_at}
 use Rattle.std.proofs.lemmas.Bool.{and_parts}
@@ -19,7 +19,7 @@ use Rattle.language.proofs.SpliceLaws.{Splices, splices_end, splices_past, splic
 use Rattle.model.specs.Capture.{under, under_all}
 use Rattle.model.specs.Renaming.{parts_at, name_uses}
 use Rattle.model.proofs.FieldFacts.{front-stands}
-use Rattle.model.proofs.NameUses.{given_in, pick_same, head_uses, parts_uses, uses_node}
+use Rattle.model.proofs.NameUses.{given_in, head_uses, parts_uses, uses_node}
 
 -- the renaming, by head and parts
 abbrev head_under : Name → Name → Bool → Head → Head
@@ -39,7 +39,7 @@ values_under : (x y : Name) (h : Bool) (g : ℕ → Bool) → ((p : ℕ) → g p
     exprs_in (under_all x y h es) ≡ parts_under x y g p (exprs_in es)
 unfolding under
 values_under x y h g as-h p no_exprs = refl
-values_under x y h g as-h p (expr_and e es) = ap₂ (λ b r. under x y b e ∷ r) (sym (as-h p)) (values_under x y h g as-h (p + 1) es)
+values_under x y h g as-h p (expr_and e es) = grind (arith, values_under x y h g as-h (p + 1) es)
 
 count_under : (x y : Name) (h : Bool) (es : Exprs) → count_exprs (under_all x y h es) ≡ count_exprs es
 unfolding under count_exprs
@@ -61,7 +61,7 @@ unfolding under head_of parts
 under-parts x y h (num n) = refl
 under-parts x y h (var z) = refl
 under-parts x y h (bin k a b) = refl
-under-parts x y h (call f es) = values_under x y h (given_in x h (h_call f (count_exprs es))) (λ p. pick_same (eqb p 1) h) 0 es
+under-parts x y h (call f es) = grind (arith, values_under)
 under-parts x y h (bind z a b) = refl
 under-parts x y h (choice c a b) = refl
 under-parts x y h (tell a) = refl
@@ -69,8 +69,7 @@ under-parts x y h (tell a) = refl
 under-spelled : (x y : Name) (h : Bool) (e : Expr) →
     expr_spelled (under x y h e)
     ≡ head_spelled (head_under x y h (head_of e)) ++ flat expr_spelled (parts_under x y (given_in x h (head_of e)) 0 (parts e))
-under-spelled x y h e =
-    spelled_node (under x y h e) ∙ ap₂ (λ u es. head_spelled u ++ flat expr_spelled es) (under-head x y h e) (under-parts x y h e)
+under-spelled x y h e = grind (arith, spelled_node, under-head, under-parts)
 
 -- the name x, wherever it is listed, is y
 abbrev Renames : List ℕ → Name → Name → List ℕ → ℕ → List ℕ → Type 0
@@ -100,7 +99,7 @@ module _ (bs : List ℕ) (x y : Name) (h : Bool) (i : ℕ) (ks out : List ℕ) w
       go true c =
           splices_past bs (with_length y) (8 + length x) i (1 ∷ []) ((i + 1) ∷ ks) (with_length y ++ out) (stands-first bs i (1 ∷ []) (with_length z) s)
           (splices_new bs (with_length y) (8 + length x) (i + 1) ks out
-          (subst (λ j. Renames bs x y ks j out) (omega (arith, length_with z, ap length (same_eq x z (and_parts (same x z) (not h) c).0))) r))
+          (subst (λ j. Renames bs x y ks j out) (omega (arith, length_with z, ap length (same_eq x z (and_parts _ _ c).0))) r))
       go false c = head_stays (h_var z) s r
   head_spliced (h_bin k) s r = head_stays (h_bin k) s r
   head_spliced (h_call f k) s r = head_stays (h_call f k) s r
@@ -174,23 +173,13 @@ names_spliced before mid after x y e =
     all_is a b c d r = simp append_assoc
 
     whole : Stands bs 0 front
-    whole = subst (λ l. Stands l 0 front) (all_is before (with_length x) mid (expr_spelled e) after) (front-stands front after)
+    whole = grind (arith, all_is, front-stands)
 
     later : Stands bs (0 + length before + length (with_length x)) (mid ++ expr_spelled e)
-    later =
-        stands-second bs (0 + length before) (with_length x) (mid ++ expr_spelled e)
-        (stands-second bs 0 before (with_length x ++ (mid ++ expr_spelled e)) whole)
+    later = grind (arith, stands-second, bs, whole)
 
     end_is : drop (j + length (expr_spelled e)) bs ≡ after
-    end_is =
-        ap (drop (j + length (expr_spelled e))) (sym (all_is before (with_length x) mid (expr_spelled e) after))
-        ∙ drop_at front after (j + length (expr_spelled e))
-        (omega (
-          arith,
-          length-append before (with_length x ++ (mid ++ expr_spelled e)),
-          length-append (with_length x) (mid ++ expr_spelled e),
-          length-append mid (expr_spelled e),
-        ))
+    end_is = grind (arith, j, all_is, drop_at, front, length-append)
 
     expr_renamed : Renames bs x y (name_uses x false i e) j (expr_spelled (under x y false e) ++ after)
     expr_renamed =

@@ -1,19 +1,20 @@
 -- What is made of a program that fits is a program that fits: every function of it does, and a turn tests how large it is. So do the programs that
 -- can be gone back to, of which there are at most eight. Assumes nothing.
-use Rattle.std.proofs.Common.{◌≡◌, ℕ, ◌≤◌, Bool, true, not, ◌&&◌, ltb, leb, List, [], ◌∷◌, length, sym, refl, ap, ◌∙◌, arith, length-take}
+use Rattle.std.proofs.Common.{◌≡◌, ℕ, ◌≤◌, Bool, true, leb, List, [], ◌∷◌, length, sym, refl, ap, ◌∙◌, arith, length-take}
 use Rattle.std.proofs.lemmas.Bool.{and_parts, and_from}
-use Rattle.language.specs.Basics.{every, same}
+use Rattle.language.specs.Basics.{every}
 use Rattle.language.specs.Bytes.{in_bytes, Name}
 use Rattle.language.specs.Expr.{Expr, num, bin, call, bind, choice, Fun, Program, parts}
 use Rattle.language.specs.Places.{put_at}
 use Rattle.language.specs.Names.{free, distinct}
 use Rattle.language.specs.Spelling.{program_spelled}
 use Rattle.language.specs.Fits.{a_name, an_expr, a_fun, a_program}
-use Rattle.language.proofs.ListFacts.{every_take, every_append, every-those, every_so, every-each}
-use Rattle.language.proofs.FitFacts.{bind_fit, choice_fit, fit_bin, fit_bind, fit_choice, pick_true}
-use Rattle.language.proofs.PlaceFits.{parts_fit, at_fit, put_fit}
+use Rattle.language.proofs.ListFacts.{every_append, every-those, every_so, every-each}
+use Rattle.language.proofs.FitFacts.{bind_fit, choice_fit, fit_bin, fit_bind, fit_choice}
+use Rattle.language.proofs.NodeFacts.{head-fits}
+use Rattle.language.proofs.PlaceFits.{at_fit, put_fit}
 use Rattle.language.proofs.ProgramFits.{found-every, fun-fits, fit_fun, program_fits, fit_program}
-use Rattle.model.specs.Command.{Command, load, show, names, rename_bind, rename_param, rename_fun, extract, inline_bind, inline_call, turn_cond, drop_fun, undo, a_place, fits}
+use Rattle.model.specs.Command.{Command, load, show, names, rename_bind, rename_param, rename_fun, extract, inline_bind, inline_call, turn_cond, drop_fun, undo, fits}
 use Rattle.model.specs.State.{Plain, at_first, Turn, with_body, fine}
 use Rattle.model.specs.Rename.{renamed}
 use Rattle.model.specs.FunctionNames.{fun_renamed}
@@ -67,9 +68,7 @@ module _ (w : Plain) (funs : every a_fun w.now ≡ true) where
       (renamed_fit f.body m.from y named own.3))
 
   fun_funs : (x y : Name) → a_name y ≡ true → (f : Fun) → a_fun f ≡ true → a_fun (fun_renamed x y f) ≡ true
-  fun_funs x y named f h =
-      let own = fun-fits f h in
-      fit_fun (fun_renamed x y f) (pick_true a_name (same f.name x) y f.name named own.0) own.1 own.2 (recalled_fit f.body x y named own.3)
+  fun_funs x y named f h = grind (arith, recalled_fit)
 
   extract_funs : (x : Name) (ks : List ℕ) (y : Name) (p : Program) → a_name y ≡ true → MadeExtract w x ks y p → every a_fun p ≡ true
   extract_funs x ks y p named m =
@@ -80,7 +79,7 @@ module _ (w : Plain) (funs : every a_fun w.now ≡ true) where
       ap (every a_fun) m.made
       ∙ every_append a_fun caller (made_fun y e ∷ [])
       (put_funs w.now funs x ks m.at (call y (vars (free e))) (call_vars_fit y (free e) named m.few own))
-      (and_from (a_fun (made_fun y e)) true (fit_fun (made_fun y e) named m.few own fit) refl)
+      (and_from _ _ (fit_fun (made_fun y e) named m.few own fit) refl)
 
   inline_funs : (x : Name) (ks : List ℕ) (p : Program) → MadeInline w x ks p → every a_fun p ≡ true
   inline_funs x ks p m =
@@ -94,7 +93,7 @@ module _ (w : Plain) (funs : every a_fun w.now ≡ true) where
   call_funs x ks p m =
       let g = m.called.fun in
       let own = fun-fits g (found_fit w.now funs m.name m.called) in
-      let values = parts_fit (call m.name m.values) (standing_is w.now funs x ks m.at _ m.is_call) in
+      let values = (head-fits (call m.name m.values) (standing_is w.now funs x ks m.at _ m.is_call)).1 in
       ap (every a_fun) m.made
       ∙ put_funs w.now funs x ks m.at m.new
       (first-at Fit (binds_of g.params _ g.body) m.new m.news m.lets (lets_fit g.params _ g.body own.2 values own.3))
@@ -113,18 +112,16 @@ module _ (w : Plain) (funs : every a_fun w.now ≡ true) where
   made_funs (show x) p fit m = absurd m
   made_funs names p fit m = absurd m
   made_funs (rename_bind x ks y) p fit m =
-      bind_funs x ks y p (and_parts (a_name x) (a_name y) (and_parts (a_name x && a_name y) (a_place ks) fit).0).1 m
+      bind_funs x ks y p (and_parts _ _ (and_parts _ _ fit).0).1 m
   made_funs (rename_param x i y) p fit m =
-      param_funs x i y p (and_parts (a_name x) (a_name y) (and_parts (a_name x && a_name y) (ltb i 16) fit).0).1 m
-  made_funs (rename_fun x y) p fit m =
-      ap (every a_fun) m.made
-      ∙ every-each a_fun a_fun (fun_renamed x y) (fun_funs x y (and_parts (a_name x) (a_name y) fit).1) w.now funs
+      param_funs x i y p (and_parts _ _ (and_parts _ _ fit).0).1 m
+  made_funs (rename_fun x y) p fit m = grind (arith, every-each, fun_funs, and_parts)
   made_funs (extract x ks y) p fit m =
-      extract_funs x ks y p (and_parts (a_name x) (a_name y) (and_parts (a_name x && a_name y) (a_place ks) fit).0).1 m
+      extract_funs x ks y p (and_parts _ _ (and_parts _ _ fit).0).1 m
   made_funs (inline_bind x ks) p fit m = inline_funs x ks p m
   made_funs (inline_call x ks) p fit m = call_funs x ks p m
   made_funs (turn_cond x ks) p fit m = cond_funs x ks p m
-  made_funs (drop_fun x) p fit m = ap (every a_fun) m.made ∙ every-those a_fun (λ f. not (same f.name x)) w.now funs
+  made_funs (drop_fun x) p fit m = grind (arith, every-those)
   made_funs undo p fit m = absurd m
 
 pub stays_program : StaysProgram
@@ -134,7 +131,7 @@ stays_program w c fit fit-now fit-before = go (turn-ends w c)
     go (refuses k h) = fit-now
     go (looks ss h) = fit-now
     go (loads p is h) = unfold fits in (sym (ap fits is) ∙ fit)
-    go (goes_back p ps is was) = (and_parts (a_program p) (every a_program ps) (ap (every a_program) (sym was) ∙ fit-before)).0
+    go (goes_back p ps is was) = grind arith
     go (makes p m few short) = fit_program p few (made_funs w (program_fits w.now fit-now).1 c p fit m) short
 
 -- What holds of what stands and of what can be gone back to, holds after a turn of what can be gone back to.
@@ -145,8 +142,8 @@ before_stays P w c now-holds before-hold = go (turn-ends w c)
     go (refuses k h) = before-hold
     go (looks ss h) = before-hold
     go (loads p is h) = refl
-    go (goes_back p ps is was) = (and_parts (P p) (every P ps) (ap (every P) (sym was) ∙ before-hold)).1
-    go (makes p m few short) = every_take P 8 (w.now ∷ w.before) (and_from (P w.now) (every P w.before) now-holds before-hold)
+    go (goes_back p ps is was) = (and_parts _ _ (ap (every P) (sym was) ∙ before-hold)).1
+    go (makes p m few short) = grind arith
 
 pub before-few : (w : Plain) (c : Command) → length w.before ≤ 8 → length (turn w c).next.before ≤ 8
 before-few w c eight = go (turn-ends w c)
@@ -181,6 +178,4 @@ sound_stays w c fit s =
     }
   where
     short : every (λ p. leb (length (program_spelled p)) 65536) w.before ≡ true
-    short =
-        every_so a_program (λ p. leb (length (program_spelled p)) 65536)
-        (λ p h. (and_parts (leb (length p) 1024 && every a_fun p) (leb (length (program_spelled p)) 65536) h).1) w.before s.before_fit
+    short = grind (arith, every_so, and_parts)

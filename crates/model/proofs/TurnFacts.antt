@@ -180,7 +180,7 @@ unfolding param_renamed
 param_ends w x i y at [] is = refuses 3 (omega arith)
 param_ends w x i y at (z ∷ zs) is =
     let g = own_renamed at.fun i z y in
-    let both = and_parts (distinct g.params) (alike at.fun.params at.fun.body g.params g.body) in
+    let both = and_parts _ _ in
     walk-pick (Ended w (rename_param x i y)) _ _ (no 5 w)
     (λ e. now-ends w (rename_param x i y) _
     (record { at = at; from = z; names = zs; is_own = is; apart = (both e).0; still_alike = (both e).1; made = refl }))
@@ -198,7 +198,7 @@ extract-ends w x ks y at =
     walk-pick (Ended w (extract x ks y)) (taken w.now y) (no 4 w) _ (λ e. refuses 4 (omega arith))
     (λ new. walk-pick (Ended w (extract x ks y)) _ _ (no 5 w)
     (λ given. walk-pick (Ended w (extract x ks y)) (leb (length (free at.expr)) 16) _ (no 7 w)
-    (λ few. now-ends w (extract x ks y) _ (record { at = at; new = new; given = given; few = leb-true _ 16 few; made = refl }))
+    (λ few. now-ends w (extract x ks y) _ (record { at = at; new = new; given = given; few = leb-true _ _ few; made = refl }))
     (λ e. refuses 7 (omega arith))) (λ e. refuses 5 (omega arith)))
 
 -- what is put in place, if there is something
@@ -228,7 +228,7 @@ unfolding inlined_by
 called-ends w x ks at g es is [] found = refuses 5 (omega arith)
 called-ends w x ks at g es is (h ∷ hs) found =
     let as_many = eqb (length (exprs_in es)) (length h.params) in
-    let both = and_parts as_many (every (has h.params) (free h.body)) in
+    let both = and_parts _ _ in
     walk-pick (Ended w (inline_call x ks)) _ _ (no 5 w)
     (λ e. put_ends w (inline_call x ks) at.fun ks (binds_of h.params (exprs_in es) h.body)
     (λ new news lets. record {
@@ -275,8 +275,8 @@ drop-ends w x at =
     (λ e. now-ends w (drop_fun x) _
     (record {
       at = at;
-      not_main = or_left_false (same x main) (still_called w.now x) e;
-      uncalled = or_right_false (same x main) (still_called w.now x) e;
+      not_main = or_left_false _ _ e;
+      uncalled = or_right_false _ _ e;
       made = refl;
     }))
 

@@ -24,7 +24,7 @@ module _ (P : Turn → Type 0) where
       let few = leb (length p) 1024 in
       let short = leb (length (program_spelled p)) 65536 in
       walk-pick (few && short) (changed w p) (no 7 w)
-      (λ e. h (leb-true (length p) 1024 (and_parts few short e).0) (leb-true (length (program_spelled p)) 65536 (and_parts few short e).1))
+      (λ e. h (leb-true _ _ (and_parts _ _ e).0) (leb-true _ _ (and_parts _ _ e).1))
       (λ e. large)
 
   -- what is done with a function that there is, or 3

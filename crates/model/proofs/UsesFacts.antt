@@ -1,26 +1,26 @@
 -- The walk through an expression's bytes lists the uses that a renaming changes, unless one would be captured. By induction over the expression:
 -- what is listed in the end, if what follows the expression is known. Neither guard is met: each use listed has nine bytes before here, and each
 -- frame nine bytes after the expression. Assumes nothing.
-use Rattle.std.proofs.Common.{◌≡◌, ℕ, zero, suc, ◌+◌, ◌*◌, ◌<◌, ◌≤◌, Bool, true, false, not, ◌&&◌, eqb, ltb, List, [], ◌∷◌, ◌++◌, length, Some, None, Option, sym, refl, ap, ◌∙◌, subst, ap₂, zero-add, arith, ltb-true, le-ltb, lt-ltb}
+use Rattle.std.proofs.Common.{◌≡◌, ℕ, zero, suc, ◌+◌, ◌*◌, ◌<◌, ◌≤◌, Bool, true, false, not, ◌&&◌, ltb, List, [], ◌∷◌, ◌++◌, length, Some, None, Option, sym, refl, ap, ◌∙◌, subst, zero-add, arith, ltb-true, le-ltb, lt-ltb}
 use mathlib.Core.Bool.{and-true}
 use Rattle.std.specs.List.{AllByRecursion}
 use Rattle.std.proofs.lemmas.List.{append_assoc, append-nil, length-append}
 use Rattle.std.proofs.lemmas.Bool.{and_parts}
 use Rattle.language.specs.Basics.{pick, every, flat, same}
 use Rattle.language.specs.Bytes.{Name}
-use Rattle.language.specs.Expr.{Expr, num, var, bin, call, bind, choice, tell, Exprs, no_exprs, expr_and, exprs_in, count_exprs, parts}
+use Rattle.language.specs.Expr.{Expr, num, var, bin, call, bind, choice, tell, Exprs, no_exprs, expr_and, exprs_in, parts}
 use Rattle.language.specs.Spelling.{expr_spelled}
 use Rattle.language.specs.Fits.{an_expr}
 use Rattle.language.specs.Heads.{Head, h_num, h_var, h_bin, h_call, h_bind, h_choice, h_tell, head_of, arity, head_spelled}
 use Rattle.language.specs.Reading.{found, Token, token, head_at}
-use Rattle.language.specs.Uses.{Scope, scope, Holder, holder, Frame, frame, Walk, walk, token_scope, head_scope, scope_in, use_changes, most_uses, most_frames, use_listed, head_changes, part_taken, after_leaf, after_head, uses_from, uses_of}
+use Rattle.language.specs.Uses.{Scope, scope, Holder, holder, Frame, frame, Walk, walk, scope_in, use_changes, most_uses, most_frames, use_listed, head_changes, part_taken, after_leaf, after_head, uses_from, uses_of}
 use Rattle.language.proofs.StandsFacts.{Stands, stands-first, stands-second, stands_in}
 use Rattle.language.proofs.HeadFacts.{head-stands}
 use Rattle.language.proofs.NodeFacts.{spelled_node, parts-arity, head-fits, head-long}
 use Rattle.language.proofs.PartsFacts.{by_parts, spelled_nine}
 use Rattle.model.specs.Capture.{clear, clear_all}
 use Rattle.model.proofs.FieldFacts.{front-stands}
-use Rattle.model.proofs.NameUses.{given, given_in, pick_same, head_uses, parts_uses, uses_node, head_nine, uses_nine}
+use Rattle.model.proofs.NameUses.{given_in, head_uses, parts_uses, uses_node, head_nine, uses_nine}
 pub use Rattle.model.specs.Renaming.{name_uses}
 use Rattle.model.specs.Renaming.{parts_at, UsesListed}
 
@@ -42,9 +42,7 @@ values_clear : (x y : Name) (hx hy : Bool) (gx gy : ℕ → Bool) → ((p : ℕ)
     clear_all x y hx hy es ≡ parts_clear x y gx gy p (exprs_in es)
 unfolding clear
 values_clear x y hx hy gx gy as-x as-y p no_exprs = refl
-values_clear x y hx hy gx gy as-x as-y p (expr_and e es) =
-    ap₂ (λ b c. clear x y b c e && clear_all x y hx hy es) (sym (as-x p)) (sym (as-y p))
-    ∙ ap (λ t. clear x y (gx p) (gy p) e && t) (values_clear x y hx hy gx gy as-x as-y (p + 1) es)
+values_clear x y hx hy gx gy as-x as-y p (expr_and e es) = grind (arith, values_clear x y hx hy gx gy as-x as-y (p + 1) es)
 
 clear_node : (x y : Name) (hx hy : Bool) (e : Expr) →
     clear x y hx hy e ≡ (head_clear x y hx hy (head_of e) && parts_clear x y (given_in x hx (head_of e)) (given_in y hy (head_of e)) 0 (parts e))
@@ -52,11 +50,9 @@ unfolding clear head_of parts
 clear_node x y hx hy (num n) = refl
 clear_node x y hx hy (var z) = sym (and-true _)
 clear_node x y hx hy (bin k a b) = ap (λ t. clear x y hx hy a && t) (sym (and-true _))
-clear_node x y hx hy (call f es) =
-    values_clear x y hx hy (given_in x hx (h_call f (count_exprs es))) (given_in y hy (h_call f (count_exprs es)))
-    (λ p. pick_same (eqb p 1) hx) (λ p. pick_same (eqb p 1) hy) 0 es
+clear_node x y hx hy (call f es) = grind (arith, values_clear)
 clear_node x y hx hy (bind z a b) = ap (λ t. clear x y hx hy a && t) (sym (and-true _))
-clear_node x y hx hy (choice c a b) = ap (λ t. clear x y hx hy c && (clear x y hx hy a && t)) (sym (and-true _))
+clear_node x y hx hy (choice c a b) = grind arith
 clear_node x y hx hy (tell a) = sym (and-true _)
 
 pick_and : {A : Type 0} (s t : Bool) (a b : A) → pick s (pick t a b) b ≡ pick (s && t) a b
@@ -73,15 +69,7 @@ module _ (x y : Name) (hx hy : Bool) (us : List ℕ) (i : ℕ) (go_on : List ℕ
       ≡ pick (head_clear x y hx hy u) (go_on (us ++ head_uses x hx i u)) None
   unfolding use_changes
   head-listed (h_num n) = unlisted
-  head-listed (h_var z) = go (same x z && not hx) hy (same y z && not hy)
-    where
-      go : (s n t : Bool) →
-          found (pick s (pick n None (Some true)) (pick t None (Some false))) (λ c. found (use_listed us (i + 1) c) go_on)
-          ≡ pick (pick s (not n) (not t)) (go_on (us ++ pick s ((i + 1) ∷ []) [])) None
-      go true true t = refl
-      go true false t = ap (λ b. found (pick b (Some (us ++ (i + 1) ∷ [])) None) go_on) (lt-ltb (length us) most_uses few)
-      go false n true = refl
-      go false n false = unlisted
+  head-listed (h_var z) = grind (arith, unlisted)
   head-listed (h_bin k) = unlisted
   head-listed (h_call f k) = unlisted
   head-listed (h_bind z) = unlisted
@@ -95,10 +83,7 @@ uses-turn : (f : ℕ) (bs : List ℕ) (x y : Name) (w : Walk) (i : ℕ) (t : Tok
     ≡ found (head_changes x y s t.head)
     (λ c. found (use_listed w.uses (i + 1) c) (λ us. after_head (λ v. uses_from f bs x y v t.end) i (arity t.head) s w.frames us))
 unfolding uses_from
-uses-turn f bs x y w i t s read is =
-    ap₂
-    (λ o a. found o (λ t. found (head_changes x y a t.head)
-    (λ c. found (use_listed w.uses (i + 1) c) (λ us. after_head (λ v. uses_from f bs x y v t.end) i (arity t.head) a w.frames us)))) read is
+uses-turn f bs x y w i t s read is = grind arith
 
 -- the frames that are open before part p of the node at i, one of n
 abbrev frames_at : ℕ → ℕ → Scope → List Frame → ℕ → List Frame
@@ -109,27 +94,13 @@ head_is_left : (go_on : Walk → Option (List ℕ)) (i n : ℕ) (s : Scope) (fs 
     after_head go_on i n s fs us ≡ after_leaf go_on (frames_at i n s fs 0) us
 head_is_left go_on i zero s fs us few = refl
 head_is_left go_on i (suc zero) s fs us few = refl
-head_is_left go_on i (suc (suc k)) s fs us few =
-    ap (λ b. pick b (go_on (walk (Some (holder i 0)) s (frame (holder i 1) (suc (suc k)) s ∷ fs) us)) None) (lt-ltb (length fs) most_frames few)
-    ∙ sym
-    (ap (λ b. after_leaf go_on (pick b (frame (holder i 0) (suc (suc k)) s ∷ fs) fs) us) (lt-ltb 0 (suc (suc k)) (omega arith))
-    ∙ ap (λ b. go_on (walk (Some (holder i 0)) s (pick b (frame (holder i 1) (suc (suc k)) s ∷ fs) fs) us)) (lt-ltb 1 (suc (suc k)) (omega arith)))
+head_is_left go_on i (suc (suc k)) s fs us few = grind arith
 
 -- the scope in part p of the node at i
 part-scope : (bs : List ℕ) (x y : Name) (hx hy : Bool) (i p : ℕ) (t : Token) → head_at bs i ≡ Some t →
     scope_in bs x y (Some (holder i p)) (scope hx hy) ≡ scope (given_in x hx t.head p) (given_in y hy t.head p)
 unfolding scope_in
-part-scope bs x y hx hy i p t read = ap (λ o. pick (eqb p 1) (token_scope x y (scope hx hy) o) (scope hx hy)) read ∙ go (eqb p 1) t.head
-  where
-    go : (b : Bool) (u : Head) → pick b (head_scope x y (scope hx hy) u) (scope hx hy) ≡ scope (pick b (given x hx u) hx) (pick b (given y hy u) hy)
-    go false u = refl
-    go true (h_num n) = refl
-    go true (h_var z) = refl
-    go true (h_bin k) = refl
-    go true (h_call f k) = refl
-    go true (h_bind z) = refl
-    go true h_choice = refl
-    go true h_tell = refl
+part-scope bs x y hx hy i p t read = grind arith
 
 -- with turns enough, r is listed in the end
 abbrev Ends : List ℕ → Name → Name → Walk → ℕ → Option (List ℕ) → Type 0
@@ -174,10 +145,10 @@ module _ (bs : List ℕ) (x y : Name) (i₀ : ℕ) (t : Token) (read : head_at b
       subst (λ b. Goes bs x y (pick b (frame (holder i₀ p) (arity t.head) (scope hx hy) ∷ fs) fs) us j r) (sym (le-ltb p (arity t.head) (omega arith)))
       (goes_same bs x y fs (us ++ []) us (j + 0) j r (append-nil us) (omega arith) go)
   parts_go (e ∷ es) ps p j us count fit s low room go =
-      subst (λ b. Goes bs x y (pick b (frame (holder i₀ p) n sc ∷ fs) fs) us j (pick (clear x y hx₁ hy₁ e && clears) r None)) (sym (lt-ltb p n (omega arith)))
+      subst (λ b. Goes bs x y (pick b (frame (holder i₀ p) n sc ∷ fs) fs) us j (pick (clear x y hx₁ hy₁ e && clears) r None)) (sym (lt-ltb _ _ (omega arith)))
       (subst (Ends bs x y (walk (Some (holder i₀ p)) sc (frames_at i₀ n sc fs (p + 1)) us) j) (pick_and (clear x y hx₁ hy₁ e) clears r None)
       (ps.0 j (Some (holder i₀ p)) sc hx₁ hy₁ (frames_at i₀ n sc fs (p + 1)) us (pick clears r None) both.0 first (part-scope bs x y hx hy i₀ p t read) low
-      (omega (arith, frames-long (ltb (p + 1) n) (frame (holder i₀ (p + 1)) n sc) fs es (λ b. omega (arith, ltb-true (p + 1) n b)), long))
+      (omega (arith, frames-long (ltb (p + 1) n) (frame (holder i₀ (p + 1)) n sc) fs es (λ b. omega (arith, ltb-true _ _ b)), long))
       (parts_go es ps.1 (p + 1) k (us ++ name_uses x hx₁ j e) (omega arith) both.1 (stands-second bs j (expr_spelled e) (flat expr_spelled es) s)
       (omega (arith, length-append us (name_uses x hx₁ j e), uses_nine x e hx₁ j)) (omega (arith, long))
       (goes_same bs x y fs _ _ _ _ r (sym (append_assoc us (name_uses x hx₁ j e) (parts_uses x (given_in x hx t.head) (p + 1) k es)))
@@ -202,10 +173,10 @@ module _ (bs : List ℕ) (x y : Name) (i₀ : ℕ) (t : Token) (read : head_at b
       k = j + length (expr_spelled e)
 
       both : (an_expr e ≡ true) × (every an_expr es ≡ true)
-      both = and_parts (an_expr e) (every an_expr es) fit
+      both = and_parts _ _ fit
 
       first : Stands bs j (expr_spelled e)
-      first = stands-first bs j (expr_spelled e) (flat expr_spelled es) s
+      first = grind (arith, stands-first)
 
       long : length (flat expr_spelled (e ∷ es)) ≡ length (expr_spelled e) + length (flat expr_spelled es)
       long = length-append (expr_spelled e) (flat expr_spelled es)
@@ -235,17 +206,16 @@ module _ (bs : List ℕ) (x y : Name) (short : length bs ≤ 65536) where
       vs = us ++ head_uses x hx i (head_of e)
 
       here : i + length (expr_spelled e) ≤ length bs
-      here = stands_in bs i (expr_spelled e) (omega (arith, spelled_nine e)) s
+      here = grind (arith, stands_in, spelled_nine)
 
       all : Stands bs i (head_spelled (head_of e) ++ flat expr_spelled (parts e))
       all = subst (Stands bs i) (spelled_node e) s
 
       read : head_at bs i ≡ Some (token (head_of e) (parts_at i (head_of e)))
-      read =
-          head-stands bs i (head_of e) (head-fits e fit).0 (stands-first bs i (head_spelled (head_of e)) (flat expr_spelled (parts e)) all)
+      read = grind (arith, head-stands, head-fits, stands-first, all)
 
       long : length (expr_spelled e) ≡ length (head_spelled (head_of e)) + length (flat expr_spelled (parts e))
-      long = ap length (spelled_node e) ∙ length-append (head_spelled (head_of e)) (flat expr_spelled (parts e))
+      long = grind (arith, spelled_node, length-append)
 
       all-parts : after_head (λ v. uses_from f bs x y v j) i (arity u) (scope hx hy) fs vs ≡ pick clears r None
       all-parts =
