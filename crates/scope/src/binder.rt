@@ -84,7 +84,5 @@ pub fn other_own_is<S: Source>(src: &S, function: usize, index: u8, name: &[u8])
     let Some(names) = own_names(src, function) else {
         return false;
     };
-    names
-        .enumerate()
-        .any(|(number, at)| number != usize::from(index) && is_name(src, at, name))
+    names.enumerate().any(|(number, at)| number != usize::from(index) && is_name(src, at, name))
 }
