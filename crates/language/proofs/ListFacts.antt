@@ -1,6 +1,6 @@
 -- What holds of every element, and lists made of lists. Assumes nothing.
-use Rattle.std.proofs.Common.{◌≡◌, ℕ, zero, suc, ◌+◌, ◌-◌, ◌<◌, ◌≤◌, Bool, true, false, ◌&&◌, List, [], ◌∷◌, ◌++◌, length, get_or, take, drop, set, sym, refl, ap, ◌∙◌, ap₂, zero-add, arith}
-use Rattle.std.proofs.lemmas.List.{append_assoc, at_drop_more, at_drop_all}
+use Rattle.std.proofs.Common.{◌≡◌, ℕ, zero, suc, ◌+◌, ◌-◌, ◌<◌, ◌≤◌, Bool, true, false, List, [], ◌∷◌, ◌++◌, length, get_or, take, drop, set, sym, refl, ap, ◌∙◌, ap₂, zero-add, arith}
+use Rattle.std.proofs.lemmas.List.{append_assoc}
 use Rattle.std.proofs.lemmas.List.Edits.{paste_more, paste_all}
 use Rattle.std.proofs.lemmas.List.Recursion.{and_at, and_from_places}
 use lib.Seq.{take-append-add}
@@ -60,17 +60,6 @@ each_long f (x ∷ xs) = ap suc (each_long f xs)
 pub each_append : {A B : Type 0} (f : A → B) (xs ys : List A) → each f (xs ++ ys) ≡ each f xs ++ each f ys
 each_append f [] ys = refl
 each_append f (x ∷ xs) ys = ap (◌∷◌ (f x)) (each_append f xs ys)
-
--- a loop that tests one element after the other
-module _ {A : Type 0} (p : A → Bool) (xs : List A) (i : ℕ) (d : A) where
-  pub every_more : i < length xs → p (get_or xs i d) ≡ true → every p (drop i xs) ≡ every p (drop (i + 1) xs)
-  every_more h t = at_drop_more (every p) xs i d h ∙ ap (λ b. b && every p (drop (i + 1) xs)) t
-
-  pub every_not : i < length xs → p (get_or xs i d) ≡ false → every p (drop i xs) ≡ false
-  every_not h t = at_drop_more (every p) xs i d h ∙ ap (λ b. b && every p (drop (i + 1) xs)) t
-
-pub every-end : {A : Type 0} (p : A → Bool) (xs : List A) (i : ℕ) → length xs ≤ i → every p (drop i xs) ≡ true
-every-end p xs i h = at_drop_all (every p) xs i h
 
 pub flat_append : {A B : Type 0} (f : A → List B) (xs ys : List A) → flat f (xs ++ ys) ≡ flat f xs ++ flat f ys
 flat_append f [] ys = refl

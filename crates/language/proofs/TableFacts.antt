@@ -1,8 +1,8 @@
 -- A table of functions tells names apart as the names themselves do: its entries are those of the functions whose names are read, and names
 -- that are the same come to the same number. And one entry after the other, for loops. Assumes nothing.
-use Rattle.std.proofs.Common.{◌≡◌, ℕ, zero, suc, ◌+◌, ◌*◌, ◌%◌, ◌<◌, ◌≤◌, true, false, not, ◌&&◌, eqb, List, [], ◌∷◌, ◌++◌, length, get_or, take, drop, set, Some, None, Option, sym, refl, ap, ◌∙◌, ap₂, arith}
+use Rattle.std.proofs.Common.{◌≡◌, ℕ, zero, suc, ◌+◌, ◌*◌, ◌%◌, ◌<◌, ◌≤◌, true, false, not, ◌&&◌, eqb, List, [], ◌∷◌, ◌++◌, length, get_or, drop, Some, None, Option, sym, refl, ap, ◌∙◌, ap₂, arith}
 use Rattle.std.specs.List.{between}
-use Rattle.std.proofs.lemmas.List.{append_assoc, length-set, take_more_set, drop_more, drop_all}
+use Rattle.std.proofs.lemmas.List.{append_assoc, drop_more, drop_all}
 use Rattle.language.specs.Basics.{each, flat, same}
 use Rattle.language.specs.Bytes.{Name}
 use Rattle.language.specs.Names.{has, distinct}
@@ -51,12 +51,6 @@ module _ (bs : List ℕ) (i n m : ℕ) where
   pub table_grown : (t : List ℕ) → n ≡ suc m → (j k : ℕ) → name_end bs i ≡ Some j → fun_end bs i ≡ Some k →
       t ++ table_from n bs i ≡ (t ++ hash (name_there bs i) ∷ i ∷ []) ++ table_from m bs k
   table_grown t e j k p f = grind (arith, table_more, append_assoc)
-
-pub entry_written : (t : List ℕ) (k h o : ℕ) → 2 * k + 1 < length t → take (2 * (k + 1)) (set (set t (2 * k) h) (2 * k + 1) o) ≡ take (2 * k) t ++ h ∷ o ∷ []
-entry_written t k h o l =
-    ap (λ n. take n (set (set t (2 * k) h) (2 * k + 1) o)) (let z : 2 * (k + 1) ≡ 2 * k + 1 + 1 = omega arith in z)
-    ∙ take_more_set (set t (2 * k) h) (2 * k + 1) o (omega (arith, length-set t (2 * k) h))
-    ∙ ap (λ s. s ++ o ∷ []) (take_more_set t (2 * k) h (omega arith)) ∙ append_assoc (take (2 * k) t) (h ∷ []) (o ∷ [])
 
 module _ (bs : List ℕ) where
   entry : ℕ → List ℕ

@@ -196,12 +196,6 @@ module _ (m : List ℕ) (long : length m ≡ memory_words) where
       ap₂ (λ l i. get_or l i 0) (down_is m) (let z : 2 + k ≡ 2 + (k + 0) = omega arith in z)
       ∙ moved_length m long 0 1 (omega arith) (omega arith) k h ∙ ap (λ i. get_or m i 0) (let z : 2 + (k + 1) ≡ 2 + suc k = omega arith in z)
 
-  pub down_last : get_or (moved_down m) 10 0 ≡ get_or m 10 0
-  down_last = ap (λ l. get_or l 10 0) (down_is m) ∙ moved_last m long 0 1 (omega arith) (omega arith) 10 (omega arith) (omega arith)
-
-  pub down_long : length (moved_down m) ≡ memory_words
-  down_long = ap length (down_is m) ∙ moved-long m long 0 1 (omega arith) (omega arith)
-
   pub down_slot : (k : ℕ) → k < 8 → slot k (moved_down m) ≡ slot (suc k) m
   down_slot k h =
       ap₂ slot (let z : k ≡ k + 0 = omega arith in z) (down_is m) ∙ moved-slot m long 0 1 (omega arith) (omega arith) k h
