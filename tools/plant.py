@@ -62,10 +62,13 @@ def unmet(crate, log):
 
 
 def clauses(crate, function, goals):
-    """The clauses of a function that these goals name, or else all."""
+    """The clauses of a function that these goals name, or else all; where it has none, what its impl says that it gives."""
     module, *_, name = function.split("::")
-    head = re.search(rf"fn {name}\b((?:(?!\bfn ).)*?)^ *\{{$", source_of(crate, module), re.S | re.M)
+    source = source_of(crate, module)
+    head = re.search(rf"fn {name}\b((?:(?!\bfn ).)*?)^ *\{{$", source, re.S | re.M)
     found = re.findall(r"^ *ensures (?:(\w+) )?\{ (.*) \}$", head.group(1) if head else "", re.M)
+    if not found:
+        found = [(None, f"{name}_gives = {says}") for says in re.findall(rf"^ *ghost {name}_gives = \{{ (.*) \}};$", source, re.M)]
     named = [text for name, text in found if any(goal.endswith(f"-clause-{name}") for goal in goals)]
     return ticked(named or [text for _, text in found]) or "?"
 
