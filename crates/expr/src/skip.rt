@@ -24,7 +24,7 @@ pub fn arity(kind: Kind) -> usize
     }
 }
 
-// Where the next `count` expressions end.
+// Where the next `count` expressions end. Each function says where its own answer lies: an `Option` has no type that could keep it.
 pub fn skip_many<S: Source>(src: &S, count: usize, at: usize) -> Option<usize>
     ensures value { result ≡ ends count (length (S.bytes src.now)) (S.bytes src.now) at }
     ensures within { Skipped count at result (length (S.bytes src.now)) }

@@ -1,7 +1,8 @@
 // Rows of bytes that spellings are read from, wherever they lie.
 ghost use Rattle.std.specs.Prelude.{◌≡◌, ℕ, List, length, slice_index};
 
-// A row of bytes, by the list of what it holds.
+// A row of bytes, by the list of what it holds. Functions take the row and where to look in it: a cursor of both would be made anew for nearly
+// every call, since only the place changes.
 pub trait Source {
     ghost bytes: { Self → List ℕ };
 

@@ -19,7 +19,7 @@ use expr::token::{Span, number, skip_name};
 use memory::layout::{CURRENT, FRAMES, LENGTHS, Memory, NEWEST_OLDER, OLDER};
 use wire::program::owns_differ;
 
-// Two words for each of the 1,024 functions that a program has at most.
+// Two words for each of the 1,024 functions that a program has at most, in lent memory: there is no heap for a map.
 const TABLE_WORDS: usize = 2048;
 
 // Each byte of a name counts so many times the next: a prime, so that few names come to one number.

@@ -16,7 +16,7 @@ use crate::told::{Refusal, Told};
 use memory::layout::{MARK, MEMORY_WORDS, Memory, end_answer, memory_fits};
 use wire::request::{Request, read};
 
-// The numbers of the kinds.
+// The numbers of the kinds, as callers in other languages say them.
 pub const SAID: u64 = 0;
 
 pub const GO_ON: u64 = 1;
@@ -99,6 +99,7 @@ fn go_on(memory: &mut Memory, out: &mut Row) -> Told
 }
 
 // One step: `kind` says whether a command is said, in `text`, or the machine is to go on. A row that is shown stands at the beginning of `out`.
+// Kind and lengths are numbers, since this is what other languages call: what they should not be is misuse.
 pub fn step(memory: &mut [u64], kind: u64, text: &[u8], out: &mut [u8]) -> Told
     ensures says { StepSays own memory.old kind text.now out.old (step_fits own memory.old kind out.old) result memory.new out.new }
     ensures whole { Whole basics own }

@@ -9,6 +9,7 @@ use memory::layout::Frames;
 // At most so many are open: each means a part still to come, which has nine bytes at least.
 pub const MAX_FRAMES: usize = 8192;
 
+// Words by index, in lent memory: `as_chunks_mut` was tried, and says nothing of what the words hold afterwards.
 const FRAME_WORDS: usize = 5;
 
 #[derive(Clone, Copy, Debug, PartialEq, Eq)]

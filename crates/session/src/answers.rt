@@ -6,7 +6,8 @@ use crate::hex::write_hex;
 use std::alloc::AllocError;
 use std::fmt;
 
-// How a command ends. A `Result` would be no plainer: it could not have the text of its own line.
+// How a command ends. A `Result` would be no plainer: it could not have the text of its own line. A refusal is its number, which is printed:
+// nothing here knows what it is of.
 #[derive(Clone, Copy, Debug, PartialEq, Eq)]
 pub enum Ending {
     Done,
