@@ -1,6 +1,7 @@
 -- What is written byte by byte: how far it is after each, and how pieces are joined. Assumes nothing.
 use Rattle.std.proofs.Common.{◌≡◌, ℕ, ◌+◌, ◌*◌, ◌<◌, ◌≤◌, Bool, true, false, ltb, List, [], ◌∷◌, ◌++◌, length, get_or, drop, set, Some, None, Option, sym, refl, ap, ◌∙◌, subst, arith, ltb-false, ltb-true, lt-ltb}
 use Rattle.std.proofs.lemmas.List.{drop_more, drop_all, length-append}
+use Rattle.std.specs.Prelude.{⊤}
 use Rattle.language.specs.Basics.{pick}
 use Rattle.language.proofs.ByteFacts.{bytes_append}
 use Rattle.memory.specs.Build.{Writing, writing_at, writing, word_with, pushed, pushed_all, Pushed, Appended, Appends}
@@ -63,25 +64,28 @@ pushed-append [] vs w = refl
 pushed-append (u ∷ us) vs w = pushed-append us vs (pushed w u)
 
 -- how many bytes are written once some were appended
-pub appended-count : (m : List ℕ) (b : Build) (vs : List ℕ) (c : Build) (n : List ℕ) → Pushed m b vs c n → c.written ≡ b.written + length vs
-appended-count m b vs c n a =
-    let w = subst (λ v. Written (writing m b) v (length vs)) (sym a.so) (written_all (writing m b) vs (omega arith)) in
+pub appended-count : (b : Build) (vs : List ℕ) (c : Build) → Pushed b vs c → c.written ≡ b.written + length vs
+appended-count b vs c a =
+    let w = subst (λ v. Written (writing b) v (length vs)) (sym a.so) (written_all (writing b) vs (omega arith)) in
     omega (arith, w.count)
 
 -- a piece, and what comes after it
-pub appends_then : (m : List ℕ) (b : Build) (us : List ℕ) (c : Build) (n vs : List ℕ) (r : Option Build) (l : List ℕ) → Pushed m b us c n → Appends n c vs r l → Appends m b (us ++ vs) r l
-appends_then m b us c n vs None l p q = omega (arith, q, appended-count m b us c n p, length-append us vs)
-appends_then m b us c n vs (Some d) l p q =
+pub pushed_then : (b : Build) (us : List ℕ) (c : Build) (vs : List ℕ) (d : Build) → Pushed b us c → Pushed c vs d → Pushed b (us ++ vs) d
+pushed_then b us c vs d p q =
     record {
-      so = q.so ∙ ap (λ w. pushed_all w vs) p.so ∙ sym (pushed-append us vs (writing m b));
-      room = omega (arith, q.room, appended-count m b us c n p, length-append us vs);
+      so = q.so ∙ ap (λ w. pushed_all w vs) p.so ∙ sym (pushed-append us vs (writing b));
+      room = omega (arith, q.room, appended-count b us c p, length-append us vs);
       bytes = bytes_append us vs p.bytes q.bytes;
     }
+
+pub appends_then : (b : Build) (us : List ℕ) (c : Build) (vs : List ℕ) (r : Option ⊤) (d : Build) → Pushed b us c → Appends c vs r d → Appends b (us ++ vs) r d
+appends_then b us c vs None d p q = omega (arith, q, appended-count b us c p, length-append us vs)
+appends_then b us c vs (Some _) d p q = pushed_then b us c vs d p q
 
 pub appends_stop : (b : Build) (us vs : List ℕ) → 65536 < b.written + length us → 65536 < b.written + length (us ++ vs)
 appends_stop b us vs p = omega (arith, p, length-append us vs)
 
 -- one piece
-pub appends_one : (m : List ℕ) (b : Build) (vs : List ℕ) (r : Option Build) (n : List ℕ) → Appended m b vs r n → Appends m b vs r n
-appends_one m b vs None n a = a.1
-appends_one m b vs (Some c) n a = a
+pub appends_one : (b : Build) (vs : List ℕ) (r : Option ⊤) (c : Build) → Appended b vs r c → Appends b vs r c
+appends_one b vs None c a = a.1
+appends_one b vs (Some _) c a = a

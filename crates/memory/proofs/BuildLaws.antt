@@ -1,6 +1,6 @@
 -- A program that was written byte by byte into an area of zeros stands there, eight bytes to a word. By induction on its bytes, eight at a time.
 -- Assumes nothing.
-use Rattle.std.proofs.Common.{◌≡◌, ℕ, zero, suc, ◌+◌, ◌-◌, ◌*◌, ◌%◌, ◌<◌, ◌≤◌, true, ltb, List, [], ◌∷◌, ◌++◌, length, get_or, drop, set, sym, refl, ap, ◌∙◌, ap₂, arith}
+use Rattle.std.proofs.Common.{◌≡◌, ℕ, zero, suc, ◌+◌, ◌-◌, ◌*◌, ◌/◌, ◌%◌, ◌<◌, ◌≤◌, true, ltb, List, [], ◌∷◌, ◌++◌, length, get_or, drop, set, sym, refl, ap, ◌∙◌, ap₂, arith}
 use Rattle.std.proofs.Math.Seq.{set-append_seam}
 use Rattle.std.specs.Int.Digits.{number_from_digits}
 use Rattle.std.proofs.lemmas.List.{length-append, append_assoc, ext_get_or}
@@ -105,7 +105,10 @@ put_in_zeros (v ∷ vs) m (suc n) few =
 pub built_law : (bs : List ℕ) → length bs ≤ 65536 → all_bytes bs ≡ true → finished (pushed_all (writing_at (zero_words 8192) 0 0 0) bs) ≡ slot_filled bs
 built_law bs short bytes = laid bs (zero_words 8192) 0 bytes ∙ put_in_zeros (packed bs) [] 8192 (omega (arith, length_packed_words bs))
 
-pub built_begun : (b c : Build) (bs m n : List ℕ) → b ≡ record { written = 0; word = 0 } → m ≡ zero_words 8192 → Pushed m b bs c n → finished (writing n c) ≡ slot_filled bs
-built_begun b c bs m n begun zeros p =
-    ap finished (p.so ∙ ap₂ (λ l a. pushed_all (writing l a) bs) zeros begun)
+pub built_begun : (b c : Build) (bs : List ℕ) → b.written ≡ 0 → b.word ≡ 0 → b.area.now ≡ zero_words 8192 → Pushed b bs c → finished (writing c) ≡ slot_filled bs
+built_begun b c bs none empty zeros p =
+    ap finished
+    (p.so
+    ∙ ap (λ n. pushed_all (writing_at b.area.now (n / 8) (n % 8) b.word) bs) none
+    ∙ ap₂ (λ l v. pushed_all (writing_at l 0 0 v) bs) zeros empty)
     ∙ built_law bs (omega (arith, p.room)) p.bytes

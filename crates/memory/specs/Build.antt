@@ -1,6 +1,6 @@
 -- Writing into the build area, byte by byte: whole words go into the area, and the bytes since the last of them are kept as one number.
 -- Assumes nothing: these are definitions.
-use Rattle.std.specs.Prelude.{◌≡◌, ℕ, ◌+◌, ◌-◌, ◌*◌, ◌/◌, ◌%◌, ◌<◌, ◌≤◌, true, List, [], ◌∷◌, length, replicate, Some, None, Option, ◌==◌, nat_lt, slice_set}
+use Rattle.std.specs.Prelude.{◌≡◌, ℕ, ◌+◌, ◌-◌, ◌*◌, ◌/◌, ◌%◌, ◌<◌, ◌≤◌, true, List, [], ◌∷◌, length, replicate, Some, None, Option, ⊤, ◌==◌, nat_lt, slice_set}
 use Rattle.language.specs.Basics.{pick}
 use Rattle.language.specs.Bytes.{all_bytes}
 use Rattle.memory.specs.declared.build.Build.{Build}
@@ -15,8 +15,8 @@ pub record Writing : Type 0 where
 abbrev pub writing_at : List ℕ → ℕ → ℕ → ℕ → Writing
 writing_at m n k v = record { area = m; words = n; filled = k; word = v }
 
-abbrev pub writing : List ℕ → Build → Writing
-writing m b = writing_at m (b.written / 8) (b.written % 8) b.word
+abbrev pub writing : Build → Writing
+writing b = writing_at b.area.now (b.written / 8) (b.written % 8) b.word
 
 -- the bytes since the last whole word, and one more
 abbrev pub word_with : Writing → ℕ → ℕ
@@ -32,20 +32,20 @@ pushed_all w [] = w
 pushed_all w (v ∷ vs) = pushed_all (pushed w v) vs
 
 -- the bytes, and they are bytes, were written, for which there was room
-pub record Pushed (m : List ℕ) (b : Build) (vs : List ℕ) (c : Build) (n : List ℕ) : Type 0 where
-  pub so : writing n c ≡ pushed_all (writing m b) vs
+pub record Pushed (b : Build) (vs : List ℕ) (c : Build) : Type 0 where
+  pub so : writing c ≡ pushed_all (writing b) vs
   pub room : b.written + length vs ≤ 65536
   pub bytes : all_bytes vs ≡ true
 
 -- the bytes are written, if there is room for them
-abbrev pub Appended : List ℕ → Build → List ℕ → Option Build → List ℕ → Type 0
-Appended m b vs None n = (n ≡ m) × (65536 < b.written + length vs)
-Appended m b vs (Some c) n = Pushed m b vs c n
+abbrev pub Appended : Build → List ℕ → Option ⊤ → Build → Type 0
+Appended b vs None c = (c ≡ b) × (65536 < b.written + length vs)
+Appended b vs (Some _) c = Pushed b vs c
 
 -- the bytes are written in several pieces, if there is room for all of them
-abbrev pub Appends : List ℕ → Build → List ℕ → Option Build → List ℕ → Type 0
-Appends m b vs None n = 65536 < b.written + length vs
-Appends m b vs (Some c) n = Pushed m b vs c n
+abbrev pub Appends : Build → List ℕ → Option ⊤ → Build → Type 0
+Appends b vs None c = 65536 < b.written + length vs
+Appends b vs (Some _) c = Pushed b vs c
 
 -- zeros behind the last byte, up to a whole word
 abbrev pub finished : Writing → List ℕ

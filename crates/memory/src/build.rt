@@ -10,84 +10,94 @@ use expr::skip::MAX_BYTES;
 use expr::source::{Source, Text};
 use expr::token::Span;
 
-// How far the writing is: so many bytes are written, those since the last whole word in `word`.
-#[derive(Clone, Copy, Debug, PartialEq, Eq)]
-pub struct Build {
-    pub written: usize,
-    pub word: u64,
+// A program that is being written: so many bytes are in the area, but for those since the last whole word, in `word`.
+#[derive(Drop)]
+pub struct Build<'a> {
+    area: &'a mut Slot,
+    written: usize,
+    word: u64,
 }
 
-// Nothing is written yet, and the area is zeros.
-pub fn begin(area: &mut Slot) -> Build
-    ensures value { result ≡ record { written = 0; word = 0 } }
-    ensures after { area.new ≡ zero_words 8192 }
-{
-    area.fill(0);
-    Build {
-        written: 0,
-        word: 0,
+impl<'a> Build<'a> {
+    // Nothing is written yet, and the area is zeros.
+    pub fn begin(area: &'a mut Slot) -> Build<'a>
+        ensures same_reference { result.area.ghost_name ≡ area.entry.ghost_name }
+        ensures value { (result.written ≡ 0) × (result.word ≡ 0) }
+        ensures after { result.area.now ≡ zero_words 8192 }
+    {
+        area.fill(0);
+        Build {
+            area,
+            written: 0,
+            word: 0,
+        }
     }
-}
 
-fn push(area: &mut Slot, build: Build, byte: u8) -> Build
-    requires { build.written < 65536 }
-    ensures { writing area.new result ≡ pushed (writing area.old build) byte }
-{
-    let word = build.word.wrapping_mul(256).wrapping_add(u64::from(byte));
-    let written = build.written + 1;
-    if !written.is_multiple_of(8) {
-        return Build { written, word };
+    fn push(&mut self, byte: u8)
+        requires { self.old.written < 65536 }
+        ensures same_reference { self.new.area.ghost_name ≡ self.old.area.ghost_name }
+        ensures value { writing self.new ≡ pushed (writing self.old) byte }
+    {
+        let word = self.word.wrapping_mul(256).wrapping_add(u64::from(byte));
+        let at = self.written;
+        self.written = at + 1;
+        if !self.written.is_multiple_of(8) {
+            self.word = word;
+            return;
+        }
+        self.area[at / 8] = word;
+        self.word = 0;
     }
-    area[build.written / 8] = word;
-    Build { written, word: 0 }
-}
 
-// The bytes in the span, as far as it lies within the row.
-pub fn append<S: Source>(area: &mut Slot, build: Build, src: &S, span: Span) -> Option<Build>
-    ensures { Appended area.old build (spelled_in (S.bytes src.now) span) result area.new }
-{
-    let inside = span.within(src.len());
-    if build.written.saturating_add(inside.len()) > MAX_BYTES {
-        return None;
+    // The bytes in the span, as far as it lies within the row.
+    pub fn append<S: Source>(&mut self, src: &S, span: Span) -> Option<()>
+        ensures same_reference { self.new.area.ghost_name ≡ self.old.area.ghost_name }
+        ensures value { Appended self.old (spelled_in (S.bytes src.now) span) result self.new }
+    {
+        let inside = span.within(src.len());
+        if self.written.saturating_add(inside.len()) > MAX_BYTES {
+            return None;
+        }
+        for i in inside.from..inside.to {
+            self.push(src.at(i));
+        }
+        Some(())
     }
-    let mut end = build;
-    for i in inside.from..inside.to {
-        end = push(area, end, src.at(i));
-    }
-    Some(end)
-}
 
-pub fn append_bytes(area: &mut Slot, build: Build, bytes: &[u8]) -> Option<Build>
-    ensures { Appended area.old build bytes.now result area.new }
-{
-    let span = Span {
-        from: 0,
-        to: bytes.len(),
-    };
-    append(area, build, &Text { bytes }, span)
-}
-
-// A name with its length before it.
-pub fn append_name(area: &mut Slot, build: Build, name: &[u8]) -> Option<Build>
-    ensures { Appends area.old build (with_length name.now) result area.new }
-{
-    let counted = append_bytes(area, build, &name.len().to_be_bytes())?;
-    append_bytes(area, counted, name)
-}
-
-// The last word is whole, with zeros behind; how many bytes were written.
-pub fn finish(area: &mut Slot, build: Build) -> usize
-    requires { build.written ≤ 65536 }
-    ensures value { result ≡ build.written }
-    ensures after { area.new ≡ finished (writing area.old build) }
-{
-    let count = build.written;
-    if count.is_multiple_of(8) {
-        return count;
+    pub fn append_bytes(&mut self, bytes: &[u8]) -> Option<()>
+        ensures same_reference { self.new.area.ghost_name ≡ self.old.area.ghost_name }
+        ensures value { Appended self.old bytes.now result self.new }
+    {
+        let span = Span {
+            from: 0,
+            to: bytes.len(),
+        };
+        self.append(&Text { bytes }, span)
     }
-    let mut end = build;
-    for k in count % 8..8 {
-        end = push(area, end, 0);
+
+    // A name with its length before it.
+    pub fn append_name(&mut self, name: &[u8]) -> Option<()>
+        ensures same_reference { self.new.area.ghost_name ≡ self.old.area.ghost_name }
+        ensures value { Appends self.old (with_length name.now) result self.new }
+    {
+        self.append_bytes(&name.len().to_be_bytes())?;
+        self.append_bytes(name)
     }
-    count
+
+    // The last word is whole, with zeros behind; how many bytes were written.
+    pub fn finish(&mut self) -> usize
+        requires { self.old.written ≤ 65536 }
+        ensures same_reference { self.new.area.ghost_name ≡ self.old.area.ghost_name }
+        ensures value { result ≡ self.old.written }
+        ensures after { self.new.area.now ≡ finished (writing self.old) }
+    {
+        let count = self.written;
+        if count.is_multiple_of(8) {
+            return count;
+        }
+        for k in count % 8..8 {
+            self.push(0);
+        }
+        count
+    }
 }

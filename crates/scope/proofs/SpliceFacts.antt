@@ -8,7 +8,7 @@ use Rattle.scope.specs.Splicing.{Replaced}
 use Rattle.memory.specs.declared.build.Build.{Build}
 use Rattle.memory.specs.Build.{writing, pushed_all, Pushed, finished}
 use Rattle.memory.specs.Layout.{zero_words, slot_filled}
-use Rattle.memory.proofs.BuildFacts.{appended-count, appends_then}
+use Rattle.memory.proofs.BuildFacts.{appended-count, pushed_then}
 use Rattle.memory.proofs.BuildLaws.{built_begun}
 
 -- past the end nothing is to come but new names
@@ -25,10 +25,10 @@ late bs new w (k ∷ ks) i j p q = ap (λ l. l ++ (new ++ spliced_from bs new w 
     none i p = ap (take (k - i)) (drop_all i bs p) ∙ take_none (k - i)
 
 -- all was written
-pub record Whole (bs : List ℕ) (c : Build) (n : List ℕ) : Type 0 where
+pub record Whole (bs : List ℕ) (c : Build) : Type 0 where
   pub short : c.written ≤ 65536
   pub count : c.written ≡ length bs
-  pub stands : finished (writing n c) ≡ slot_filled bs
+  pub stands : finished (writing c) ≡ slot_filled bs
 
 module _ (bs new : List ℕ) (w : ℕ) where
   -- where the rest begins, as far as it can be said
@@ -39,21 +39,21 @@ module _ (bs new : List ℕ) (w : ℕ) where
       go true e = ap (spliced_from bs new w ks) (let z : k + w ≡ from = omega (arith, ltb-true _ _ e) in z)
       go false e = late bs new w ks (k + w) from (omega (arith, ltb-false _ _ e)) (omega (arith, ltb-false _ _ e))
 
-  module _ (ks : List ℕ) (m₀ : List ℕ) (b₀ : Build) where
+  module _ (ks : List ℕ) (b₀ : Build) where
     abbrev pub total : List ℕ
     total = spliced_from bs new w ks 0
 
     -- of all that is to come at first, so much was written after k names, and the rest of the program is to come then
-    pub record SplicedTo (k : ℕ) (m : List ℕ) (b : Build) (from : ℕ) : Type 0 where
+    pub record SplicedTo (k : ℕ) (b : Build) (from : ℕ) : Type 0 where
       pub done : List ℕ
-      pub written : Pushed m₀ b₀ done b m
+      pub written : Pushed b₀ done b
       pub all : total ≡ done ++ spliced_from bs new w (drop k ks) from
 
-    pub splice_none : b₀.written ≤ 65536 → SplicedTo 0 m₀ b₀ 0
+    pub splice_none : b₀.written ≤ 65536 → SplicedTo 0 b₀ 0
     unfolding pushed_all
     splice_none room = record { done = []; written = record { so = refl; room = omega arith; bytes = refl }; all = refl }
 
-    module _ (k : ℕ) (m : List ℕ) (b : Build) (from : ℕ) (so_far : SplicedTo k m b from) where
+    module _ (k : ℕ) (b : Build) (from : ℕ) (so_far : SplicedTo k b from) where
       -- a name more
       module _ (more : k < length ks) (to : ℕ) (is : to ≡ get_or ks k 0) where
         abbrev pub piece : List ℕ
@@ -72,17 +72,17 @@ module _ (bs new : List ℕ) (w : ℕ) where
               arith,
               start,
               full,
-              appended-count m₀ b₀ so_far.done b m so_far.written,
+              appended-count b₀ so_far.done b so_far.written,
               ap length with-piece,
               length-append (so_far.done ++ piece) (spliced_from bs new w (drop (k + 1) ks) (to + w)),
               length-append so_far.done piece,
             )
 
-        pub splice_more : (c : Build) (n : List ℕ) → Pushed m b piece c n → (next most width : ℕ) → length bs ≤ most → w ≡ 8 + width → next ≡ min (min (to + 8) most + width) most → SplicedTo (k + 1) n c next
-        splice_more c n p next most width short wide at =
+        pub splice_more : (c : Build) → Pushed b piece c → (next most width : ℕ) → length bs ≤ most → w ≡ 8 + width → next ≡ min (min (to + 8) most + width) most → SplicedTo (k + 1) c next
+        splice_more c p next most width short wide at =
             record {
               done = so_far.done ++ piece;
-              written = appends_then m₀ b₀ so_far.done b m piece (Some c) n so_far.written p;
+              written = pushed_then b₀ so_far.done b piece c so_far.written p;
               all = with-piece ∙ ap (λ r. (so_far.done ++ piece) ++ r) (next_from (drop (k + 1) ks) to next most width short wide at);
             }
 
@@ -101,19 +101,19 @@ module _ (bs new : List ℕ) (w : ℕ) where
                 start,
                 full,
                 ap (λ n. length (between from n bs)) is,
-                appended-count m₀ b₀ so_far.done b m so_far.written,
+                appended-count b₀ so_far.done b so_far.written,
                 ap length with-rest,
                 length-append so_far.done (between from (length bs) bs),
               )
 
-          pub rest_more : (c : Build) (n : List ℕ) → Pushed m b (between from len bs) c n → b₀ ≡ record { written = 0; word = 0 } → m₀ ≡ zero_words 8192 → Whole total c n
-          rest_more c n p begun zeros =
-              let q = appends_then m₀ b₀ so_far.done b m (between from len bs) (Some c) n so_far.written p in
-              let whole = subst (λ l. Pushed m₀ b₀ l c n) (ap (λ k. so_far.done ++ between from k bs) is ∙ sym with-rest) q in
+          pub rest_more : (c : Build) → Pushed b (between from len bs) c → b₀.written ≡ 0 → b₀.word ≡ 0 → b₀.area.now ≡ zero_words 8192 → Whole total c
+          rest_more c p none empty zeros =
+              let q = pushed_then b₀ so_far.done b (between from len bs) c so_far.written p in
+              let whole = subst (λ l. Pushed b₀ l c) (ap (λ k. so_far.done ++ between from k bs) is ∙ sym with-rest) q in
               record {
-                short = omega (arith, whole.room, appended-count m₀ b₀ total c n whole);
-                count = omega (arith, appended-count m₀ b₀ total c n whole, ap (λ (b : Build). b.written) begun);
-                stands = built_begun b₀ c total m₀ n begun zeros whole;
+                short = omega (arith, whole.room, appended-count b₀ total c whole);
+                count = omega (arith, appended-count b₀ total c whole, none);
+                stands = built_begun b₀ c total none empty zeros whole;
               }
 
 pub replaced_none : (new n : List ℕ) (r : Option ℕ) → r ≡ None → 65536 < length new → Replaced new r n
