@@ -1,3 +1,2 @@
 pub mod Request
-pub mod Spelling
 pub mod Walk

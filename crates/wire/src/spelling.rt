@@ -1,5 +1,5 @@
 // Bytes that are a program's spelling.
-ghost use Rattle.std.specs.Prelude.{◌≡◌, true};
+ghost use Rattle.std.specs.Prelude.{◌≡◌, true, is_some, IfSome};
 ghost use Rattle.language.specs.Reading.{is_program};
 
 use expr::skip::is_program;
@@ -13,11 +13,10 @@ pub struct Spelling<'a> {
 }
 
 impl<'a> Spelling<'a> {
-    ghost use Rattle.wire.specs.Spelling.{spelled, spelling_told};
-
     // The bytes, if they are one.
     pub fn new(bytes: &'a [u8]) -> Option<Spelling<'a>>
-        ensures { spelling_told result ≡ spelled bytes.now }
+        ensures whole { is_some result ≡ is_program bytes.now }
+        ensures bytes { IfSome result (λ program. program.bytes.now ≡ bytes.now) }
     {
         if !is_program(&Text { bytes }) {
             return None;
