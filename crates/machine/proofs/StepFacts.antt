@@ -7,16 +7,14 @@ use Rattle.std.proofs.lemmas.Bool.{and_parts, and_from, and_left, and_right}
 use Rattle.std.specs.Result.{result_ok}
 use Rattle.language.specs.Basics.{pick}
 use Rattle.wire.specs.declared.request.Request.{Request}
-use Rattle.wire.specs.declared.request.Request.TheVariants.{Load, Show, Names, RenameBind, RenameParam, RenameFunction, Extract, InlineBind, InlineCall, TurnIf, DropFunction, Undo}
 use Rattle.wire.specs.Request.{request_asks}
-use Rattle.model.proofs.AskedFacts.{asked_program}
 use Rattle.model.specs.Reading.{Ask, asked}
 use Rattle.model.specs.Engine.{said, next, Act, shows, done, refused, Step}
 use Rattle.machine.specs.declared.told.Refusal.{Refusal}
 use Rattle.machine.specs.declared.told.Refusal.TheVariants.{Misuse}
 use Rattle.memory.specs.Layout.{memory_words, mark, memory_fits}
 use Rattle.machine.specs.Machine.{stepped, ask_step, names_step, gone_on, obeyed, by_event, own}
-use Rattle.machine.specs.Told.{refusal_number, Told, RefusedWith, event_of, ActTold, Loadable, Tells, StepSays, step_fits}
+use Rattle.machine.specs.Told.{refusal_number, Told, RefusedWith, event_of, ActTold, Tells, StepSays, step_fits}
 
 pub tells_no : (m out : List ℕ) (r : Told) (why : Refusal) → r ≡ Err why → Tells (stepped m (refused (refusal_number why))) r out m out
 unfolding ActTold
@@ -120,21 +118,6 @@ obeyed_as m ended text a r out m₁ out₁ u e s = subst (λ b. Tells (obeyed b 
 
 pub answered_as : (m : List ℕ) (q p : Request) (r : Told) (out m₁ out₁ : List ℕ) → q ≡ p → Tells (ask_step m (request_asks p)) r out m₁ out₁ → Tells (ask_step m (request_asks q)) r out m₁ out₁
 answered_as m q p r out m₁ out₁ e s = subst (λ t. Tells (ask_step m (request_asks t)) r out m₁ out₁) (sym e) s
-
--- what was read to be loaded is a program's spelling
-pub loadable : (text : List ℕ) (q : Request) → Some (request_asks q) ≡ asked text → Loadable q
-loadable text (Load p) e = asked_program text p.now (sym e)
-loadable text (Show f) e = tt
-loadable text Names e = tt
-loadable text (RenameBind t y) e = tt
-loadable text (RenameParam f i y) e = tt
-loadable text (RenameFunction f g) e = tt
-loadable text (Extract t g) e = tt
-loadable text (InlineBind t) e = tt
-loadable text (InlineCall t) e = tt
-loadable text (TurnIf t) e = tt
-loadable text (DropFunction f) e = tt
-loadable text Undo e = tt
 
 -- going on
 pub on_none : (m out : List ℕ) (r : Told) → mark m ≡ 0 → r ≡ Err Misuse → Tells (gone_on m) r out m out

@@ -2,9 +2,6 @@
 use Rattle.std.specs.Prelude.{◌≡◌, ℕ, ◌<◌, Bool, true, false, ◌&&◌, List, ◌++◌, length, drop, Option, Some, None, Result, Ok, Err, ◌==◌, nat_le}
 use Rattle.language.specs.Basics.{pick}
 use Rattle.model.specs.Engine.{Event, said, next, Act, shows, done, refused, Step, Engine}
-use Rattle.language.specs.Reading.{is_program}
-use Rattle.wire.specs.declared.request.Request.{Request}
-use Rattle.wire.specs.declared.request.Request.TheVariants.{Load, Show, Names, RenameBind, RenameParam, RenameFunction, Extract, InlineBind, InlineCall, TurnIf, DropFunction, Undo}
 use Rattle.machine.specs.declared.step.Kind.{Kind}
 use Rattle.machine.specs.declared.step.Kind.TheVariants.{Said, GoOn}
 use Rattle.machine.specs.declared.told.Refusal.{Refusal}
@@ -62,18 +59,3 @@ StepSays e memory kind text out false r memory₁ out₁ = (r ≡ Err Misuse) ×
 
 abbrev pub step_fits : Engine → (memory : List ℕ) (kind : ℕ) (out : List ℕ) → Bool
 step_fits e memory kind out = length memory == length e.start && (nat_le kind 1 && nat_le 131072 (length out))
-
--- what is asked to be loaded is a program's spelling
-abbrev pub Loadable : Request → Type 0
-Loadable (Load p) = is_program p.now ≡ true
-Loadable (Show f) = Unit {0}
-Loadable Names = Unit {0}
-Loadable (RenameBind t y) = Unit {0}
-Loadable (RenameParam f i y) = Unit {0}
-Loadable (RenameFunction f g) = Unit {0}
-Loadable (Extract t g) = Unit {0}
-Loadable (InlineBind t) = Unit {0}
-Loadable (InlineCall t) = Unit {0}
-Loadable (TurnIf t) = Unit {0}
-Loadable (DropFunction f) = Unit {0}
-Loadable Undo = Unit {0}

@@ -1,9 +1,8 @@
 // Loading a program: its names are compared, and its bytes put where the current program lies.
-ghost use Rattle.std.specs.Prelude.{◌≡◌, ◌+◌, ◌*◌, ◌<◌, ◌≤◌, true, ◌++◌, length, take, drop};
+ghost use Rattle.std.specs.Prelude.{◌≡◌, ◌+◌, ◌*◌, ◌<◌, ◌≤◌, ◌++◌, length, take, drop};
 ghost use Rattle.expr.specs.Token.{spelled_in};
 ghost use Rattle.language.specs.Contents.{is_fine};
 ghost use Rattle.language.specs.Packed.{words_for, word_of, packed};
-ghost use Rattle.language.specs.Reading.{is_program};
 ghost use Rattle.language.specs.Table.{hash, table_from, none_like, all_differ};
 ghost use Rattle.machine.specs.Entries.{entries};
 ghost use Rattle.machine.specs.History.{loaded};
@@ -18,6 +17,7 @@ use expr::source::{Source, Text};
 use expr::token::{Span, number, skip_name};
 use memory::layout::{CURRENT, FRAMES, LENGTHS, Memory, NEWEST_OLDER, OLDER};
 use wire::program::owns_differ;
+use wire::spelling::Spelling;
 
 // Two words for each of the 1,024 functions that a program has at most, in lent memory: there is no heap for a map.
 const TABLE_WORDS: usize = 2048;
@@ -108,10 +108,13 @@ fn table_differs<S: Source>(src: &S, table: &[[u64; 2]]) -> bool
 }
 
 // No two functions have one name, and no function has two own names that are one. What the table holds then is no matter.
-fn is_fine<S: Source>(src: &S, table: &mut [[u64; 2]]) -> bool
-    requires { (is_program (S.bytes src.now) ≡ true) × (1024 ≤ length table.old) }
-    ensures { result ≡ is_fine (S.bytes src.now) }
+fn is_fine(program: Spelling<'_>, table: &mut [[u64; 2]]) -> bool
+    requires { 1024 ≤ length table.old }
+    ensures { result ≡ is_fine program.entry.bytes.now }
 {
+    let src = &Text {
+        bytes: program.bytes,
+    };
     let Some(count) = number(src, 0) else {
         return true;
     };
@@ -123,32 +126,28 @@ fn is_fine<S: Source>(src: &S, table: &mut [[u64; 2]]) -> bool
 }
 
 // The same, with the table in the frames, which are zeros afterwards, whatever came out.
-fn names_differ(memory: &mut Memory, program: &[u8]) -> bool
-    requires { is_program program.now ≡ true }
-    ensures value { result ≡ is_fine program.now }
+fn names_differ(memory: &mut Memory, program: Spelling<'_>) -> bool
+    ensures value { result ≡ is_fine program.entry.bytes.now }
     ensures after { memory.new ≡ table_cleared memory.old }
 {
-    let src = Text { bytes: program };
     let (table, _) = memory[FRAMES..FRAMES + TABLE_WORDS].as_chunks_mut::<2>();
-    let fine = is_fine(&src, table);
+    let fine = is_fine(program, table);
     clear(memory, FRAMES..FRAMES + TABLE_WORDS);
     fine
 }
 
 // The program is the current one, and there is nothing to go back to.
-fn store(memory: &mut Memory, program: &[u8])
-    requires { is_program program.now ≡ true }
-    ensures { memory.new ≡ loaded memory.old program.now }
+fn store(memory: &mut Memory, program: Spelling<'_>)
+    ensures { memory.new ≡ loaded memory.old program.entry.bytes.now }
 {
-    pack(&mut memory[CURRENT..NEWEST_OLDER], program);
+    pack(&mut memory[CURRENT..NEWEST_OLDER], program.bytes);
     memory[OLDER] = 0;
-    memory[LENGTHS] = program.len() as u64 - 8;
+    memory[LENGTHS] = program.bytes.len() as u64 - 8;
 }
 
 // The program becomes the current one if its names differ.
-pub fn load(memory: &mut Memory, program: &[u8], out: &mut [u8]) -> Told
-    requires { is_program program.now ≡ true }
-    ensures { Tells (load_step memory.old program.now) result out.old memory.new out.new }
+pub fn load(memory: &mut Memory, program: Spelling<'_>, out: &mut [u8]) -> Told
+    ensures { Tells (load_step memory.old program.entry.bytes.now) result out.old memory.new out.new }
 {
     if !names_differ(memory, program) {
         return Err(Refusal::NameTaken);

@@ -1,7 +1,7 @@
 // One step of the machine.
-ghost use Rattle.std.specs.Prelude.{◌≡◌, true};
+ghost use Rattle.std.specs.Prelude.{◌≡◌};
 ghost use Rattle.machine.specs.Machine.{ask_step, gone_on, by_event, own};
-ghost use Rattle.machine.specs.Told.{KindRead, kind_number, Loadable, Tells, StepSays, step_fits};
+ghost use Rattle.machine.specs.Told.{KindRead, kind_number, Tells, StepSays, step_fits};
 ghost use Rattle.model.specs.Engine.{said};
 ghost use Rattle.model.specs.Known.{basics};
 ghost use Rattle.model.specs.Whole.{Whole};
@@ -59,7 +59,6 @@ const FIRST_FUNCTION: usize = 8;
 
 // A command that was read.
 fn answer(memory: &mut Memory, request: Request<'_>, out: &mut Row) -> Told
-    requires { Loadable request }
     ensures { Tells (ask_step memory.old (request_asks request.entry)) result out.old memory.new out.new }
 {
     match request {

@@ -8,7 +8,7 @@ use Rattle.language.specs.Bytes.{Name, eight, with_length, all_bytes}
 use Rattle.language.specs.Expr.{Program}
 use Rattle.language.specs.Spelling.{program_spelled}
 use Rattle.language.specs.Fits.{a_name, a_program}
-use Rattle.language.specs.Reading.{found, is_program}
+use Rattle.language.specs.Reading.{found}
 use Rattle.language.proofs.ByteFacts.{bytes_append, bytes_first, bytes_eight, bytes_name, bytes_program}
 use Rattle.language.proofs.ReadingFacts.{found_some, pick_some, pick-found}
 use Rattle.language.proofs.HeadFacts.{either}
@@ -299,11 +299,6 @@ asked-said text a e =
     of (k ∷ bs) bytes e =
         let w = kind_was k bs (and_parts _ _ bytes).1 a e in
         (w.0, (w.1, w.2), w.3)
-
--- what a text asks to load is a program's spelling
-pub asked_program : (text bs : List ℕ) → asked text ≡ Some (loading bs) → is_program bs ≡ true
-unfolding Asks
-asked_program text bs e = grind (arith, asked-said, program_read, bytes_program)
 
 -- loading is asked for by the program's bytes
 pub load-asked : (text : List ℕ) (p : Program) → Said text (load p) → asked text ≡ Some (loading (program_spelled p))

@@ -32,7 +32,7 @@ target_told (Some t) = Some (target t.function.now t.place.now)
 
 -- what each request asks for
 abbrev pub request_asks : Request → Ask
-request_asks (Load p) = loading p.now
+request_asks (Load p) = loading p.bytes.now
 request_asks (Show f) = asking (show f.now)
 request_asks Names = asking names
 request_asks (RenameBind t y) = asking (rename_bind t.function.now t.place.now y.now)

@@ -6,3 +6,4 @@ pub mod functions;
 pub mod names;
 pub mod program;
 pub mod request;
+pub mod spelling;

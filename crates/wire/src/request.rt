@@ -4,13 +4,12 @@ ghost use Rattle.model.specs.Reading.{command_in, asked};
 ghost use Rattle.wire.specs.Request.{request_told, Exact};
 
 use crate::field::{Fields, Target};
-use expr::skip::is_program;
-use expr::source::{Source, Text};
+use crate::spelling::Spelling;
 
 #[derive(Clone, Copy, Debug, PartialEq, Eq)]
 pub enum Request<'a> {
     Load {
-        program: &'a [u8],
+        program: Spelling<'a>,
     },
     Show {
         function: &'a [u8],
@@ -56,7 +55,9 @@ fn read_kind(kind: u8, text: &[u8]) -> Option<Request<'_>>
 {
     let mut fields = Fields { rest: text };
     match kind {
-        1 => is_program(&Text { bytes: text }).then_some(Request::Load { program: text }),
+        1 => Some(Request::Load {
+            program: Spelling::new(text)?,
+        }),
         2 => Some(Request::Show {
             function: fields.last_name()?,
         }),

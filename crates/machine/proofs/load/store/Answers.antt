@@ -9,6 +9,6 @@ use Rattle.machine.proofs.load.store.Goals as goal
 pub returns : goal.returns
 unfolding loaded
 returns c =
-    ap (λ m. set (set m 1 0) 2 (length c.args.program.now - 8))
-    (put_in-part 16 8192 _ c.args.memory.now (packed c.args.program.now) c.pack.new.words (omega arith)
-    (omega (arith, bytes_short c.args.program.now c.requires)) (length_packed_words c.args.program.now) c.pack.ensures)
+    ap (λ m. set (set m 1 0) 2 (length c.args.program.bytes.now - 8))
+    (put_in-part 16 8192 _ c.args.memory.now (packed c.args.program.bytes.now) c.pack.new.words (omega arith)
+    (omega (arith, bytes_short c.args.program.bytes.now c.args.program.whole)) (length_packed_words c.args.program.bytes.now) c.pack.ensures)
