@@ -34,10 +34,10 @@ pub within_met : (low high k : ℕ) (o : Option ℕ) → Some k ≡ o → Within
 within_met low high k o e w = let v = subst (λ p. Within low p high) (sym e) w in (v.0, v.1)
 
 -- a row of a length that is known
-row_told : (m out : List ℕ) (i j : ℕ) (bs out₁ : List ℕ) → j ≤ length bs → out₁ ≡ between i j bs ++ drop (j - i) out →
+row_told : (m out : List ℕ) (i j : ℕ) (bs out₁ : List ℕ) → j ≤ length bs → out₁ ≡ between i j bs ++ drop (length (between i j bs)) out →
     Tells (stepped m (shows (between i j bs))) (Ok (Some (j - i))) out m out₁
 row_told m out i j bs out₁ h o =
-    tells_row m out (between i j bs) (Ok (Some (j - i))) out₁ (ap (λ n. Ok (Some n)) (sym (length-between bs i j h))) (o ∙ ap (λ n. between i j bs ++ drop n out) (sym (length-between bs i j h)))
+    tells_row m out (between i j bs) (Ok (Some (j - i))) out₁ (ap (λ n. Ok (Some n)) (sym (length-between bs i j h))) o
 
 module _ (m : List ℕ) (x : Name) (out bs : List ℕ) (e : bs ≡ held 0 m) where
   as_found : (o : Option (List ℕ)) (r : Told) (m₁ out₁ : List ℕ) → function_row bs x ≡ o → Tells (row_shown m o) r out m₁ out₁ → Tells (show_step m x) r out m₁ out₁
@@ -51,7 +51,7 @@ module _ (m : List ℕ) (x : Name) (out bs : List ℕ) (e : bs ≡ held 0 m) whe
   show-cut r i f g n =
       as_found None r m out (ap (λ o. found o (λ i. found (fun_end bs i) (λ j. Some (between i j bs)))) (sym f) ∙ ap (λ o. found o (λ j. Some (between i j bs))) (sym g)) (tells_no m out r Missing n)
 
-  pub show-row : (i j : ℕ) (out₁ : List ℕ) → Some i ≡ find_function bs x → Some j ≡ fun_end bs i → j ≤ length bs → out₁ ≡ between i j bs ++ drop (j - i) out →
+  pub show-row : (i j : ℕ) (out₁ : List ℕ) → Some i ≡ find_function bs x → Some j ≡ fun_end bs i → j ≤ length bs → out₁ ≡ between i j bs ++ drop (length (between i j bs)) out →
       Tells (show_step m x) (Ok (Some (j - i))) out (set m 0 65537) out₁
   show-row i j out₁ f g h o =
       as_found (Some (between i j bs)) (Ok (Some (j - i))) (set m 0 65537) out₁
@@ -81,7 +81,7 @@ module _ (m : List ℕ) (i : ℕ) (out bs : List ℕ) (e : bs ≡ held 0 m) wher
       (subst (λ o. Tells (name_shown m (found o (λ j. found (fun_end bs i) (λ k. Some (row (between (i + 8) j bs) k))))) r out m out) f
       (subst (λ o. Tells (name_shown m (found o (λ k. Some (row (between (i + 8) j bs) k)))) r out m out) g (tells_no m out r Misuse n)))
 
-  pub names-row : (j k : ℕ) (out₁ : List ℕ) → i < length bs → Some j ≡ name_end bs i → Some k ≡ fun_end bs i → j ≤ length bs → out₁ ≡ between (i + 8) j bs ++ drop (j - (i + 8)) out →
+  pub names-row : (j k : ℕ) (out₁ : List ℕ) → i < length bs → Some j ≡ name_end bs i → Some k ≡ fun_end bs i → j ≤ length bs → out₁ ≡ between (i + 8) j bs ++ drop (length (between (i + 8) j bs)) out →
       Tells (names_step m i) (Ok (Some (j - (i + 8)))) out (set m 0 (k + 1)) out₁
   names-row j k out₁ h f g l o =
       as_named (Ok (Some (j - (i + 8)))) (set m 0 (k + 1)) out₁ h

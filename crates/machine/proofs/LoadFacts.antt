@@ -1,11 +1,10 @@
 -- Loading: names that come to numbers, tables and words that are written one after the other, and what a load tells. Assumes nothing.
 use Rattle.std.proofs.Common.{◌≡◌, ℕ, zero, suc, ◌+◌, ◌-◌, ◌*◌, ◌/◌, ◌%◌, ◌<◌, ◌≤◌, Bool, true, false, ◌&&◌, leb, ltb, List, [], ◌∷◌, ◌++◌, length, get_or, take, drop, replicate, Some, None, Ok, Err, sym, refl, ap, ap₂, ◌∙◌, subst, arith, leb-true, ltb-true, ltb-false}
-use Rattle.std.specs.List.{between}
+use Rattle.std.specs.List.{range_with_len, fold}
 use Rattle.std.specs.Simd.{first_chunks}
 use Rattle.std.specs.Int.{from_be_bytes}
 use mir.Syntax.{w64}
 use Rattle.std.specs.Int.Digits.{number_from_digits}
-use Rattle.std.proofs.lemmas.List.Edits.{length-between, get_or-between}
 use Rattle.std.proofs.lemmas.List.{length-append, length-take, length-drop, drop-drop, get_or-take, get_or-drop, get_or-replicate, get_or_append_left, get_or-append_right, get_or_past}
 use Rattle.std.proofs.lemmas.Bool.{and_parts}
 use borrow.Rule.Slice.PartMut.{put_mid}
@@ -17,8 +16,8 @@ use Rattle.language.specs.Reading.{number_at, funs_fill, is_program}
 use Rattle.language.specs.Contents.{passed, owns_differ, names_differ, is_fine}
 use Rattle.language.specs.Packed.{word_of}
 use Rattle.language.specs.Table.{hashed, table_from, all_differ}
-use Rattle.language.proofs.ReadingFacts.{number_eight}
-use Rattle.language.proofs.TableFacts.{hashed_more, hashed-end, table_law}
+use Rattle.language.proofs.ReadingFacts.{number_eight, take_next}
+use Rattle.language.proofs.TableFacts.{table_law}
 use Rattle.model.specs.Engine.{done, refused}
 use Rattle.machine.specs.declared.told.Refusal.TheVariants.{NameTaken}
 use Rattle.machine.specs.History.{loaded}
@@ -85,21 +84,18 @@ word_last bs =
     (ap₂ ◌∷◌ (get_or-drop (n * 8) bs 5 0) (ap₂ ◌∷◌ (get_or-drop (n * 8) bs 6 0) (ap (λ b. b ∷ []) (get_or-drop (n * 8) bs 7 0)))))))))
 
 -- one byte after the other of a name; product and sum wrap
-module _ (bs : List ℕ) (i j at h : ℕ) (end : j ≤ length bs) (low : i ≤ at) where
-  pub hash_more : (b : ℕ) → at < j → b ≡ get_or bs at 0 →
-      hashed h (drop (at - i) (between i j bs)) ≡ hashed ((h * 1099511628211 % 18446744073709551616 + b) % 18446744073709551616) (drop (at + 1 - i) (between i j bs))
-  hash_more b l e =
-      hashed_more h (between i j bs) (at - i) (omega (arith, length-between bs i j end))
-      ∙ ap₂ (λ v n. hashed v (drop n (between i j bs))) wraps (let next : at - i + 1 ≡ at + 1 - i = omega arith in next)
-    where
-      read : get_or (between i j bs) (at - i) 0 ≡ b
-      read = get_or-between bs i j (at - i) 0 (omega arith) ∙ ap (λ n. get_or bs n 0) (let there : i + (at - i) ≡ at = omega arith in there) ∙ sym e
+abbrev pub hashed_at : List ℕ → ℕ → ℕ → ℕ
+hashed_at bs h at = (h * 1099511628211 % 18446744073709551616 + get_or bs at 0) % 18446744073709551616
 
-      wraps : (h * 1099511628211 + get_or (between i j bs) (at - i) 0) % 18446744073709551616 ≡ (h * 1099511628211 % 18446744073709551616 + b) % 18446744073709551616
-      wraps = omega (arith, read)
-
-  pub hash-end : j ≤ at → hashed h (drop (at - i) (between i j bs)) ≡ h
-  hash-end l = hashed-end h (between i j bs) (at - i) (omega (arith, length-between bs i j end))
+pub hash_folded : (bs : List ℕ) (i n h : ℕ) → i + n ≤ length bs → fold (hashed_at bs) h (range_with_len i n) ≡ hashed h (take n (drop i bs))
+unfolding hashed
+hash_folded bs i zero h l = refl
+hash_folded bs i (suc n) h l =
+    hash_folded bs (i + 1) n (hashed_at bs h i) (omega arith)
+    ∙ sym (ap (hashed h) (take_next bs i (i + 1) n (omega arith) refl) ∙ ap (λ k. hashed k (take n (drop (i + 1) bs))) wraps)
+  where
+    wraps : (h * 1099511628211 + get_or bs i 0) % 18446744073709551616 ≡ hashed_at bs h i
+    wraps = omega arith
 
 -- a program's names differ as its table and the functions' own names say
 module _ (bs : List ℕ) (n : ℕ) (count : Some n ≡ number_at bs 0) (t : List ℕ) (table : t ≡ table_from n bs 8) where

@@ -49,18 +49,15 @@ fn pack(words: &mut [u64], text: &[u8])
     }
 }
 
-// The number that the name in the span comes to.
+// The number that the name in the span comes to, as far as it lies within the source.
 fn hash_span<S: Source>(src: &S, span: Span) -> u64
-    requires { (span.from ≤ span.to) × (span.to ≤ length (S.bytes src.now)) }
     ensures { result ≡ hash (spelled_in (S.bytes src.now) span) }
 {
-    let mut sum: u64 = 0;
-    for at in span.from..span.to {
-        sum = sum
-            .wrapping_mul(HASH_FACTOR)
-            .wrapping_add(u64::from(src.at(at)));
-    }
-    sum
+    let span = span.within(src.len());
+    (span.from..span.to).fold(0, |sum: u64, at| {
+        sum.wrapping_mul(HASH_FACTOR)
+            .wrapping_add(u64::from(src.at(at)))
+    })
 }
 
 // Writes the table of `count` functions, and says how many entries it has.

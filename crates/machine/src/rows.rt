@@ -11,21 +11,20 @@ pub const ROW_BYTES: usize = 131072;
 
 pub type Row = [u8; ROW_BYTES];
 
-// The bytes in the span, at the beginning of the row; the others stay.
+// The bytes in the span, as far as it lies within the source, at the beginning of the row; the others stay.
 pub fn copy_row<S: Source>(src: &S, span: Span, row: &mut [u8])
-    requires within { (span.from ≤ span.to) × (span.to ≤ length (S.bytes src.now)) }
-    requires room { span.to - span.from ≤ length row.old }
-    ensures { row.new ≡ spelled_in (S.bytes src.now) span ++ drop (span.to - span.from) row.old }
+    requires { length (spelled_in (S.bytes src.now) span) ≤ length row.old }
+    ensures { row.new ≡ spelled_in (S.bytes src.now) span ++ drop (length (spelled_in (S.bytes src.now) span)) row.old }
 {
-    for (k, byte) in row[..span.to - span.from].iter_mut().enumerate() {
+    let span = span.within(src.len());
+    for (k, byte) in row[..span.len()].iter_mut().enumerate() {
         *byte = src.at(span.from + k);
     }
 }
 
 // The row is as long as the span.
 pub fn shown(span: Span) -> Told
-    requires { span.from ≤ span.to }
     ensures { result ≡ Ok (Some (span.to - span.from)) }
 {
-    Ok(Some((span.to - span.from) as u64))
+    Ok(Some(span.len() as u64))
 }
