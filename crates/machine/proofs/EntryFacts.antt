@@ -1,60 +1,96 @@
 -- Entries of the table of functions: how it is written, and how it is compared, one entry after the other. Assumes nothing.
-use Rattle.std.proofs.Common.{◌≡◌, ℕ, suc, ◌+◌, ◌-◌, ◌<◌, ◌≤◌, true, false, not, ◌&&◌, eqb, List, [], ◌∷◌, ◌++◌, length, get_or, take, drop, set, Some, None, sym, refl, ap, ap₂, ◌∙◌, arith, eq-eqb, ne_eqb}
+use Rattle.std.proofs.Common.{◌≡◌, ℕ, zero, suc, Bool, Option, ◌+◌, ◌-◌, ◌<◌, ◌≤◌, true, false, not, ◌&&◌, eqb, List, [], ◌∷◌, ◌++◌, length, get_or, take, drop, set, Some, None, sym, refl, ap, ap₂, ◌∙◌, arith, eq-eqb, ne_eqb}
 use Rattle.std.specs.List.{between}
-use Rattle.std.proofs.lemmas.List.{append-nil, take_more_set, take-append-le, length-set, set-get_or, take_rest, length-take-le, at_drop_more, at_drop_all}
-use Rattle.language.specs.Basics.{same}
+use Rattle.std.specs.Prelude.{IfSome, nat_le}
+use Rattle.std.proofs.lemmas.List.{append-nil, append_assoc, take_more_set, take_rest, at_drop_more, at_drop_all}
+use Rattle.language.specs.Basics.{same, pick, flat}
 use Rattle.language.specs.Contents.{listed, name_there}
-use Rattle.language.specs.Reading.{name_end, fun_end}
+use Rattle.language.specs.Reading.{number_at, name_end, fun_end, found}
+use Rattle.wire.specs.Walk.{functions_from}
+use Rattle.wire.specs.declared.functions.Function.{Function}
 use Rattle.language.specs.Table.{hash, table_from, none_like, all_differ}
 use Rattle.language.proofs.ListFacts.{flat_append}
-use Rattle.language.proofs.TableFacts.{table_none, table_no_name, table_cut, table_grown}
 use Rattle.machine.specs.Entries.{entries}
 
--- a table of which k entries are written, and the functions from i on are still to come
-module _ (bs written : List ℕ) (i n k : ℕ) (so_far : table_from n bs 8 ≡ written ++ table_from (n - k) bs i) where
-  none_left : table_from (n - k) bs i ≡ [] → written ≡ table_from n bs 8
-  none_left e = sym (so_far ∙ ap (λ r. written ++ r) e ∙ append-nil written)
+-- the entry of a function
+abbrev pub entry_of : List ℕ → Function → List ℕ
+entry_of bs f = hash (between (f.at + 8) f.params bs) ∷ f.at ∷ []
 
-  pub table_full : k ≡ n → written ≡ table_from n bs 8
-  table_full e = none_left (table_none bs i (n - k) 0 (omega arith))
+pub table_entries : (bs : List ℕ) (n i : ℕ) → table_from n bs i ≡ flat (entry_of bs) (functions_from n bs i)
+unfolding table_from functions_from
+table_entries bs zero i = refl
+table_entries bs (suc n) i = by (name_end bs i) (fun_end bs i) (table_entries bs n)
+  where
+    by : (o p : Option ℕ) → ((k : ℕ) → table_from n bs k ≡ flat (entry_of bs) (functions_from n bs k)) →
+        listed o (λ j. hash (between (i + 8) j bs) ∷ i ∷ listed p (λ k. table_from n bs k))
+        ≡ flat (entry_of bs) (listed o (λ j. record { at = i; params = j } ∷ listed p (λ k. functions_from n bs k)))
+    by None p h = refl
+    by (Some j) None h = refl
+    by (Some j) (Some k) h = ap (λ t. hash (between (i + 8) j bs) ∷ i ∷ t) (h k)
 
-  module _ (more : k < n) where
-    one_more : n - k ≡ suc (n - (k + 1))
-    one_more = omega arith
+pub functions_short : (bs : List ℕ) (n i : ℕ) → length (functions_from n bs i) ≤ n
+unfolding functions_from
+functions_short bs zero i = omega arith
+functions_short bs (suc n) i = by (name_end bs i) (fun_end bs i) (functions_short bs n)
+  where
+    by : (o p : Option ℕ) → ((k : ℕ) → length (functions_from n bs k) ≤ n) →
+        length (listed {A = Function} o (λ j. record { at = i; params = j } ∷ listed p (λ k. functions_from n bs k))) ≤ suc n
+    by None p h = omega arith
+    by (Some j) None h = omega arith
+    by (Some j) (Some k) h = omega (arith, h k)
 
-    pub table_nameless : None ≡ name_end bs i → written ≡ table_from n bs 8
-    table_nameless p = none_left (table_no_name bs i (n - k) (n - (k + 1)) one_more (sym p))
+-- the bytes of a name lie behind its length
+name_behind : (bs : List ℕ) (i : ℕ) → IfSome (name_end bs i) (λ j. i + 8 ≤ j)
+name_behind bs i = by (number_at bs i)
+  where
+    if_there : (n : ℕ) (b : Bool) → IfSome (pick b (Some (i + 8 + n)) None) (λ j. i + 8 ≤ j)
+    if_there n true = omega arith
+    if_there n false = tt
 
-    module _ (j h : ℕ) (p : Some j ≡ name_end bs i) (q : h ≡ hash (between (i + 8) j bs)) where
-      entered : written ++ h ∷ i ∷ [] ≡ written ++ hash (name_there bs i) ∷ i ∷ []
-      entered = ap (λ x. written ++ x ∷ i ∷ []) (q ∙ ap (λ o. hash (listed o (λ j. between (i + 8) j bs))) p)
+    by : (o : Option ℕ) → IfSome (found o (λ n. pick ((nat_le 1 n && nat_le n 32) && nat_le (i + 8 + n) (length bs)) (Some (i + 8 + n)) None)) (λ j. i + 8 ≤ j)
+    by None = tt
+    by (Some n) = if_there n _
 
-      pub table_stopped : None ≡ fun_end bs i → written ++ h ∷ i ∷ [] ≡ table_from n bs 8
-      table_stopped f = entered ∙ sym (so_far ∙ ap (λ r. written ++ r) (table_cut bs i (n - k) (n - (k + 1)) one_more j (sym p) (sym f)))
+abbrev pub FirstNamed : List Function → Type 0
+FirstNamed [] = Unit {0}
+FirstNamed (f ∷ fs) = f.at + 8 ≤ f.params
 
-      pub table_longer : (l : ℕ) → Some l ≡ fun_end bs i → table_from n bs 8 ≡ (written ++ h ∷ i ∷ []) ++ table_from (n - (k + 1)) bs l
-      table_longer l f =
-          so_far ∙ table_grown bs i (n - k) (n - (k + 1)) written one_more j l (sym p) (sym f) ∙ ap (λ r. r ++ table_from (n - (k + 1)) bs l) (sym entered)
+pub first_named : (bs : List ℕ) (o : Option ℕ) (n : ℕ) → FirstNamed (listed o (λ k. functions_from n bs k))
+unfolding functions_from
+first_named bs None n = tt
+first_named bs (Some i) zero = tt
+first_named bs (Some i) (suc n) = by (name_end bs i) (name_behind bs i)
+  where
+    by : (o : Option ℕ) → IfSome o (λ j. i + 8 ≤ j) → FirstNamed (listed o (λ j. record { at = i; params = j } ∷ listed (fun_end bs i) (λ k. functions_from n bs k)))
+    by None h = tt
+    by (Some j) h = h
+
+-- a table of n functions of which k entries are written, and these functions are still to come
+pub record Filling (n : ℕ) (bs : List ℕ) (t : List (List ℕ)) (k : ℕ) (rest : List Function) : Type 0 where
+  pub room : k + length rest ≤ n
+  pub table : table_from n bs 8 ≡ entries (take k t) ++ flat (entry_of bs) rest
+
+pub filling_none : (n : ℕ) (bs : List ℕ) (t : List (List ℕ)) (rest : List Function) → rest ≡ functions_from n bs 8 → Filling n bs t 0 rest
+filling_none n bs t rest e = record { room = omega (arith, ap length e, functions_short bs n 8); table = table_entries bs n 8 ∙ ap (flat (entry_of bs)) (sym e) }
+
+pub filling_all : (n : ℕ) (bs : List ℕ) (t : List (List ℕ)) (k : ℕ) (rest : List Function) → Filling n bs t k rest → rest ≡ [] → entries (take k t) ≡ table_from n bs 8
+filling_all n bs t k rest w e = sym (w.table ∙ ap (λ r. entries (take k t) ++ flat (entry_of bs) r) e ∙ append-nil (entries (take k t)))
 
 -- one entry more is written
 module _ (t : List (List ℕ)) (k : ℕ) (h : k < length t) where
   pub entry_put : (h₁ o : ℕ) → entries (take (k + 1) (set t k (h₁ ∷ o ∷ []))) ≡ entries (take k t) ++ h₁ ∷ o ∷ []
   entry_put h₁ o = ap entries (take_more_set t k (h₁ ∷ o ∷ []) h) ∙ flat_append (λ e. e) (take k t) ((h₁ ∷ o ∷ []) ∷ [])
 
-  -- what was written lies at the front of the table
-  pub front_put : (h₁ o : ℕ) (rest : List (List ℕ)) → entries (take (k + 1) (set t k (h₁ ∷ o ∷ []) ++ rest)) ≡ entries (take k t) ++ h₁ ∷ o ∷ []
-  front_put h₁ o rest = ap entries (take-append-le (k + 1) (set t k (h₁ ∷ o ∷ [])) rest (omega (arith, length-set t k (h₁ ∷ o ∷ [])))) ∙ entry_put h₁ o
-
-  pub front_kept : (d : List ℕ) (rest : List (List ℕ)) → entries (take k (set t k (get_or t k d) ++ rest)) ≡ entries (take k t)
-  front_kept d rest =
-      ap entries (take-append-le k (set t k (get_or t k d)) rest (omega (arith, length-set t k (get_or t k d))) ∙ ap (take k) (set-get_or t k d))
-
--- the part of the table that is to be written
-pub part_long : (t items : List (List ℕ)) (n : ℕ) → n ≤ length t → length items ≡ length (take n t) → length items ≡ n
-part_long t items n h e = e ∙ length-take-le n t h
-
-pub front_full : (t rest : List (List ℕ)) (n : ℕ) → length t ≡ n → entries (take n (t ++ rest)) ≡ entries (take n t)
-front_full t rest n e = ap entries (take-append-le n t rest (omega arith))
+pub filling_more : (n : ℕ) (bs : List ℕ) (t : List (List ℕ)) (k : ℕ) (rest left : List Function) (f : Function) (h : ℕ) →
+    Filling n bs t k rest → rest ≡ f ∷ left → n ≤ length t → h ≡ hash (between (f.at + 8) f.params bs) → Filling n bs (set t k (h ∷ f.at ∷ [])) (k + 1) left
+filling_more n bs t k rest left f h w e l p =
+    record {
+      room = omega (arith, w.room, ap length e);
+      table =
+          w.table ∙ ap (λ r. entries (take k t) ++ flat (entry_of bs) r) e
+          ∙ sym (append_assoc (entries (take k t)) (entry_of bs f) (flat (entry_of bs) left))
+          ∙ ap (λ r. r ++ flat (entry_of bs) left) (ap (λ x. entries (take k t) ++ x ∷ f.at ∷ []) (sym p) ∙ sym (entry_put t k (omega (arith, w.room, ap length e)) h f.at));
+    }
 
 entry_is : (e : List ℕ) → length e ≡ 2 → e ≡ get_or e 0 0 ∷ get_or e 1 0 ∷ []
 entry_is [] l = absurd (omega arith)

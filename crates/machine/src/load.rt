@@ -12,10 +12,10 @@ ghost use Rattle.machine.specs.Told.{Tells};
 use crate::region::clear;
 use crate::told::{Refusal, Told};
 use expr::compare::same_names;
-use expr::skip::skip_function;
 use expr::source::{Source, Text};
-use expr::token::{Span, number, skip_name};
+use expr::token::{Span, number};
 use memory::layout::{CURRENT, FRAMES, LENGTHS, Memory, NEWEST_OLDER, OLDER};
+use wire::functions::{Function, Functions};
 use wire::program::owns_differ;
 use wire::spelling::Spelling;
 
@@ -60,24 +60,30 @@ fn hash_span<S: Source>(src: &S, span: Span) -> u64
     })
 }
 
+// Where the bytes of the function's name lie.
+fn name_of(f: Function) -> Span
+    requires { f.at + 8 ≤ f.params }
+    ensures from { result.from ≡ f.at + 8 }
+    ensures to { result.to ≡ f.params }
+{
+    Span {
+        from: f.at + 8,
+        to: f.params,
+    }
+}
+
 // Writes the table of `count` functions, and says how many entries it has.
 fn fill_table<S: Source>(src: &S, count: usize, table: &mut [[u64; 2]]) -> usize
     requires { count ≤ length table.old }
     ensures within { result ≤ length table.old }
     ensures value { entries (take result table.new) ≡ table_from count (S.bytes src.now) 8 }
 {
-    let mut here = 8;
-    for (done, entry) in table[..count].iter_mut().enumerate() {
-        let Some(to) = skip_name(src, here) else {
-            return done;
-        };
-        *entry = [hash_span(src, Span { from: here + 8, to }), here as u64];
-        let Some(next) = skip_function(src, here) else {
-            return done + 1;
-        };
-        here = next;
+    let mut filled = 0;
+    for (done, f) in Functions::new(src, count as u64, 8).enumerate() {
+        table[done] = [hash_span(src, name_of(f)), f.at as u64];
+        filled = done + 1;
     }
-    count
+    filled
 }
 
 // None of these functions has the name that stands at `at` and comes to `sum`.

@@ -1,9 +1,10 @@
--- The entries written so far, and those to come.
-use Rattle.std.proofs.Common.{◌≡◌, ◌-◌, ◌++◌, take}
-use Rattle.language.specs.Table.{table_from}
-use Rattle.machine.specs.Entries.{entries}
+-- The entries written so far, and the functions to come.
+use Rattle.std.proofs.Common.{◌≡◌}
+use Rattle.wire.specs.Walk.{functions_left}
+use Rattle.machine.proofs.EntryFacts.{Filling}
 use Rattle.machine.proofs.load.fill_table.Given as goal
 
 abbrev pub invariant-loop-done : goal.invariant-loop-done
 invariant-loop-done g l =
-    table_from l.count (g.S.Source.bytes l.src) 8 ≡ entries (take l.done l.entry-items) ++ table_from (l.count - l.done) (g.S.Source.bytes l.src) l.here
+    (goal.iterator-loop-done g).can_next l.done-iterator × (goal.iterator-loop-done g).is_finite l.done-iterator × (l.done-iterator.count ≡ l.filled)
+    × Filling l.count (g.S.Source.bytes l.src) l.table l.filled (functions_left g.S.Source.bytes l.done-iterator.iter)
