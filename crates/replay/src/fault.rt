@@ -6,8 +6,8 @@ use std::{fmt, io};
 // Both count from 1; columns are bytes.
 #[derive(Clone, Copy, Debug, PartialEq, Eq)]
 pub struct Place {
-    line: u64,
-    column: u64,
+    pub line: u64,
+    pub column: u64,
 }
 
 impl Place {

@@ -8,7 +8,7 @@ use Rattle.std.proofs.lemmas.List.Sums.{prefix_len-drop_yes, prefix_len-drop_no,
 use Rattle.session.specs.declared.hex.HexError.{HexError}
 use Rattle.session.specs.declared.hex.HexError.TheVariants.{NotADigit, MissingDigit, OutOfMemory}
 use Rattle.session.specs.Hex.{digit_value, is_digit, digits_in, bytes_of}
-use Rattle.session.specs.HexResults.{DigitAt, RefusesHex, moved}
+use Rattle.session.specs.HexResults.{DigitAt, ReadsByte, RefusesHex, moved}
 use Rattle.session.proofs.Laws.{paired, even_digits}
 
 -- what `map_err` by `beyond` gives, whose closure may give g for f where post says so
@@ -43,14 +43,14 @@ none_at_fault text h = none_from (bytes_of text) (λ s. absurd (omega (arith, ev
 none_at_end : (text : List ℕ) (n : ℕ) → length text ≡ 2 * n + 1 → bytes_of text ≡ None
 none_at_end text n h = none_from (bytes_of text) (λ s. absurd (omega (arith, even_digits.even text s)))
 
-pub refuse_first : (pair : List ℕ) → 0 < length pair → (e : HexError) → DigitAt pair 0 (Err e) → RefusesHex pair e
+pub refuse_first : (pair : List ℕ) → 0 < length pair → (e : HexError) → DigitAt pair 0 (Err e) → ReadsByte pair (Err e)
 refuse_first pair some (NotADigit i) (h, p, is) =
     let none : digits_in pair ≡ 0 = prefix_len-drop_no is_digit pair 0 0 h (ap is_some p) in
     (none_at_fault pair (omega arith), omega arith, omega arith)
 refuse_first pair some (MissingDigit i) (h, is) = absurd (omega arith)
 refuse_first pair some OutOfMemory h = absurd h
 
-pub refuse_second : (pair : List ℕ) (high : ℕ) → DigitAt pair 0 (Ok high) → (e : HexError) → DigitAt pair 1 (Err e) → RefusesHex pair e
+pub refuse_second : (pair : List ℕ) (high : ℕ) → DigitAt pair 0 (Ok high) → (e : HexError) → DigitAt pair 1 (Err e) → ReadsByte pair (Err e)
 refuse_second pair high (h, p, _) (NotADigit i) (h', q, is) =
     let front : digits_in pair ≡ _ = prefix_len-drop_yes is_digit pair 0 0 h (ap is_some p) in
     let back = prefix_len-drop_no is_digit pair 1 0 h' (ap is_some q) in
@@ -123,7 +123,7 @@ module _ {text items rest : List ℕ} (s : SoFar text items rest) (pair next : L
       }
 
   -- the next pair is refused, and so the text
-  pub refuse_pair : (margin : ℕ) → margin ≡ 2 * length items → length pair ≡ min 2 (length rest) → (e : HexError) → RefusesHex pair e → RefusesHex text (moved margin e)
+  pub refuse_pair : (margin : ℕ) → margin ≡ 2 * length items → length pair ≡ min 2 (length rest) → (e : HexError) → ReadsByte pair (Err e) → RefusesHex text (moved margin e)
   refuse_pair margin m size (NotADigit i) (b, at, within) =
       let here : digits_in text ≡ margin + i = omega (arith, s.digits, ahead, digits_within pair next (omega arith)) in
       let inside : margin + i < length text = omega (arith, s.whole, sizes) in
@@ -134,7 +134,7 @@ module _ {text items rest : List ℕ} (s : SoFar text items rest) (pair next : L
       let total : length text ≡ 2 * length items + 1 = omega (arith, s.whole, sizes) in
       let here : digits_in text ≡ 2 * length items + 1 = omega (arith, s.digits, ahead, digits_past pair next (omega arith), prefix_len-le-length is_digit next) in
       (none_at_end text (length items) (omega arith), omega arith, omega arith)
-  refuse_pair margin m size OutOfMemory r = tt
+  refuse_pair margin m size OutOfMemory r = absurd r
 
 pub read_whole : (text items rest : List ℕ) → SoFar text items rest → length rest ≡ 0 → bytes_of text ≡ Some items
 unfolding bytes_of

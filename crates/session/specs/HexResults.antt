@@ -22,7 +22,9 @@ RefusesHex text OutOfMemory = Unit {0}
 -- at most two bytes of text are one byte, or are refused
 abbrev pub ReadsByte : List ℕ → Result ℕ HexError → Type 0
 ReadsByte pair (Ok byte) = bytes_of pair ≡ Some (byte ∷ [])
-ReadsByte pair (Err error) = RefusesHex pair error
+ReadsByte pair (Err (NotADigit i)) = RefusesHex pair (NotADigit i)
+ReadsByte pair (Err (MissingDigit i)) = RefusesHex pair (MissingDigit i)
+ReadsByte pair (Err OutOfMemory) = ⊥
 
 abbrev pub ReadsHex : List ℕ → Result (Vec ℕ Global) HexError → Type 0
 ReadsHex text (Ok v) = bytes_of text ≡ Some (vec_items v)
