@@ -10,7 +10,7 @@ use expr::skip::MAX_BYTES;
 use expr::source::{Source, Text};
 use expr::token::Span;
 
-// A program that is being written: so many bytes are in the area, but for those since the last whole word, in `word`.
+// A program that is being written: so many bytes are in the area, those since the last whole word in `word`.
 #[derive(Drop)]
 pub struct Build<'a> {
     area: &'a mut Slot,
@@ -38,15 +38,13 @@ impl<'a> Build<'a> {
         ensures same_reference { self.new.area.ghost_name ≡ self.old.area.ghost_name }
         ensures value { writing self.new ≡ pushed (writing self.old) byte }
     {
-        let word = self.word.wrapping_mul(256).wrapping_add(u64::from(byte));
         let at = self.written;
+        self.word = self.word.wrapping_mul(256).wrapping_add(u64::from(byte));
         self.written = at + 1;
-        if !self.written.is_multiple_of(8) {
-            self.word = word;
-            return;
+        if self.written.is_multiple_of(8) {
+            self.area[at / 8] = self.word;
+            self.word = 0;
         }
-        self.area[at / 8] = word;
-        self.word = 0;
     }
 
     // The bytes in the span, as far as it lies within the row.
@@ -85,18 +83,15 @@ impl<'a> Build<'a> {
     }
 
     // The last word is whole, with zeros behind; how many bytes were written.
-    pub fn finish(&mut self) -> usize
-        requires { self.old.written ≤ 65536 }
-        ensures same_reference { self.new.area.ghost_name ≡ self.old.area.ghost_name }
-        ensures value { result ≡ self.old.written }
-        ensures after { self.new.area.now ≡ finished (writing self.old) }
+    pub fn finish(self) -> usize
+        requires { self.written ≤ 65536 }
+        ensures value { result ≡ self.entry.written }
+        ensures after { self.exit.0.now ≡ finished (writing self.entry) }
     {
         let count = self.written;
-        if count.is_multiple_of(8) {
-            return count;
-        }
-        for k in count % 8..8 {
-            self.push(0);
+        let filled = count % 8;
+        if filled != 0 {
+            self.area[count / 8] = self.word << (64 - 8 * filled);
         }
         count
     }

@@ -24,12 +24,13 @@ loop-i-preserved g c =
     let start = writing c.args.self.now in
     let end = writing c.push.new.self in
     let long = length-between bs inside.from inside.to (omega (arith, c.within-inside.ensures.inside, c.len.ensures)) in
-    let here : inside.from + (c.loop-i.i - inside.from) ≡ c.loop-i.i = omega (arith, c.loop-i.auto.i) in
-    (c.push.ensures.same_reference ∙ c.loop-i.invariant.0,
-    subst (λ k. Going start (between inside.from inside.to bs) k end) (let z : c.loop-i.i - inside.from + 1 ≡ c.loop-i.i + 1 - inside.from = omega (arith, c.loop-i.auto.i) in z)
-    (going_more start (writing c.loop-i.self) end (between inside.from inside.to bs) (c.loop-i.i - inside.from) c.at.result c.loop-i.invariant.1
-    (omega (arith, long, c.loop-i.auto.i)) c.push.ensures.value
-    (c.at.ensures ∙ sym (get_or-between bs inside.from inside.to (c.loop-i.i - inside.from) 0 (omega (arith, c.loop-i.auto.i)) ∙ ap (λ k. get_or bs k 0) here)) c.at.type_inv))
+    let here : inside.from + (c.loop-i.i - inside.from) ≡ c.loop-i.i = omega (arith, c.loop-i.auto.i) in (
+      c.push.ensures.same_reference ∙ c.loop-i.invariant.0,
+      subst (λ k. Going start (between inside.from inside.to bs) k end) (let z : c.loop-i.i - inside.from + 1 ≡ c.loop-i.i + 1 - inside.from = omega (arith, c.loop-i.auto.i) in z)
+          (going_more start (writing c.loop-i.self) end (between inside.from inside.to bs) (c.loop-i.i - inside.from) c.at.result c.loop-i.invariant.1
+          (omega (arith, long, c.loop-i.auto.i)) c.push.ensures.value
+          (c.at.ensures ∙ sym (get_or-between bs inside.from inside.to (c.loop-i.i - inside.from) 0 (omega (arith, c.loop-i.auto.i)) ∙ ap (λ k. get_or bs k 0) here)) c.at.type_inv),
+    )
 
 pub returns-clause-value : goal.returns-clause-value
 returns-clause-value g c =
