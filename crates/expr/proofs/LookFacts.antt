@@ -1,41 +1,46 @@
 -- Looking a name up, one name after the other. Assumes nothing.
-use Rattle.std.proofs.Common.{◌≡◌, ℕ, suc, ◌+◌, ◌-◌, ◌*◌, ◌/◌, ◌%◌, ◌<◌, ◌≤◌, Bool, true, false, List, [], ◌∷◌, Ok, Option, Result, length, take, drop, sym, ap, ◌∙◌, subst, ap₂, mul-le-mul_right, add-mul, one-mul, arith, eq-eqb, le-leb}
+use Rattle.std.proofs.Common.{◌≡◌, ℕ, zero, suc, ◌+◌, ◌*◌, ◌/◌, ◌%◌, ◌<◌, ◌≤◌, Bool, true, false, cond, List, [], ◌∷◌, Some, Ok, Option, Result, length, take, drop, refl, sym, ap, ap₂, ◌∙◌, subst, suc-mul, mod-lt, arith, eq-eqb, le-leb}
+use Rattle.std.specs.List.{position_from}
+use Rattle.std.specs.Iterator.{AlwaysYields}
+use Rattle.std.specs.Slice.Iter.{chunks_exact_steps, chunks_exact_rest, chunks_exact_size}
+use Rattle.std.proofs.lemmas.Iterator.{YieldsList}
+use lib.Seq.{take-append_seam, drop-append_seam}
+use Rattle.std.proofs.lemmas.List.{length-append}
 use Rattle.std.proofs.lemmas.Nat.{div-add-mod'}
-use Rattle.std.proofs.lemmas.List.{drop-drop}
-use Rattle.std.specs.List.{between}
 use Rattle.language.specs.Basics.{pick, same}
 use Rattle.language.specs.Bare.{how_near}
 use Rattle.expr.specs.declared.look.LookError.{LookError}
 use Rattle.expr.specs.Look.{cut, refusal, reply_of, LookSays}
 
--- a name that a row is cut into lies in the row
-pub name_room : (bs : List ℕ) (w k : ℕ) → k < length bs / w → k * w + w ≤ length bs
-name_room bs w k h =
-    omega (arith, mul-le-mul_right {m = k + 1} {n = length bs / w} w (omega arith), div-add-mod' (length bs) w, add-mul k 1 w, one-mul w)
+-- pieces of w bytes, n of them whole, are the names that a row is cut into
+module _ (w : ℕ) (some : 0 < w) where
+  pieces : (n : ℕ) (s : _) → chunks_exact_size s ≡ w → n * w ≤ length (chunks_exact_rest s) → length (chunks_exact_rest s) < n * w + w →
+      AlwaysYields (chunks_exact_steps {A = ℕ}) (λ x. x.now) s (cut n w (chunks_exact_rest s))
+  unfolding cut
+  pieces zero s e l h = λ x t p. omega (arith, ap length p.1.0, length-append x.now (chunks_exact_rest t), p.1.1)
+  pieces (suc n) s e l h = (
+    (λ t p. omega (arith, p.1.0, suc-mul n w)),
+    λ x t p.
+        let long : length x.now ≡ w = p.1.1 ∙ e in
+        let first : x.now ≡ take w (chunks_exact_rest s) = sym (ap₂ take (sym long) p.1.0 ∙ take-append_seam x.now (chunks_exact_rest t)) in
+        let rest : chunks_exact_rest t ≡ drop w (chunks_exact_rest s) = sym (ap₂ drop (sym long) p.1.0 ∙ drop-append_seam x.now (chunks_exact_rest t)) in
+        (first, subst (λ r. AlwaysYields (chunks_exact_steps {A = ℕ}) (λ y. y.now) t (cut n w r)) rest (pieces n t (p.0 ∙ e) (omega (arith, ap length p.1.0, length-append x.now (chunks_exact_rest t), long, suc-mul n w)) (omega (arith, ap length p.1.0, length-append x.now (chunks_exact_rest t), long, suc-mul n w)))),
+  )
 
--- no names are left
-pub near-end : (w k n : ℕ) (bs x : List ℕ) → n ≡ 0 → how_near (cut n w bs) x k ≡ []
-unfolding cut how_near
-near-end w k n bs x e = ap (λ m. how_near (cut m w bs) x k) e
+  pub whole_pieces : (s : _) (bs : List ℕ) → chunks_exact_size s ≡ w → chunks_exact_rest s ≡ bs → YieldsList (chunks_exact_steps {A = ℕ}) (λ x. x.now) s (cut (length bs / w) w bs)
+  whole_pieces s bs e f =
+      subst (λ r. YieldsList (chunks_exact_steps {A = ℕ}) (λ x. x.now) s (cut (length r / w) w r)) f
+      (record { runs = pieces (length (chunks_exact_rest s) / w) s e (omega (arith, div-add-mod' (length (chunks_exact_rest s)) w)) (omega (arith, div-add-mod' (length (chunks_exact_rest s)) w, mod-lt (length (chunks_exact_rest s)) some)) })
 
--- the next of n names, and those behind it
-module _ (bs x : List ℕ) (w k n : ℕ) (some : k < n) where
-  turn : (t : Bool) → same (between (k * w) (k * w + w) bs) x ≡ t →
-      how_near (cut (n - k) w (drop (k * w) bs)) x k ≡ pick t (k ∷ []) (how_near (cut (n - (k + 1)) w (drop ((k + 1) * w) bs)) x (k + 1))
-  unfolding cut how_near
-  turn t next =
-      ap (λ i. how_near (cut i w (drop (k * w) bs)) x k) (let e : n - k ≡ suc (n - (k + 1)) = omega arith in e)
-      ∙ ap₂ (λ b r. pick b (k ∷ []) (how_near (cut (n - (k + 1)) w r) x (suc k)))
-      (ap (λ i. same (take i (drop (k * w) bs)) x) (omega arith) ∙ next)
-      (drop-drop w (k * w) bs ∙ ap (λ i. drop i bs) (omega (arith, add-mul k 1 w, one-mul w)))
-      ∙ ap (λ i. pick t (k ∷ []) (how_near (cut (n - (k + 1)) w (drop ((k + 1) * w) bs)) x i)) (omega arith)
-
-  pub near_here : same (between (k * w) (k * w + w) bs) x ≡ true → how_near (cut (n - k) w (drop (k * w) bs)) x k ≡ k ∷ []
-  near_here e = turn true e
-
-  pub near_more : same (between (k * w) (k * w + w) bs) x ≡ false →
-      how_near (cut (n - k) w (drop (k * w) bs)) x k ≡ how_near (cut (n - (k + 1)) w (drop ((k + 1) * w) bs)) x (k + 1)
-  near_more e = turn false e
+-- what is looked for is the first piece that is the name
+pub near_position : (x : List ℕ) (xs : List (List ℕ)) (k : ℕ) → position_from (λ y. same y x) k xs ≡ reply_of (how_near xs x k)
+unfolding how_near
+near_position x [] k = refl
+near_position x (y ∷ ys) k = by (same y x) (ap (λ j. position_from (λ z. same z x) j ys) (let on : k + 1 ≡ suc k = omega arith in on) ∙ near_position x ys (suc k))
+  where
+    by : (t : Bool) → position_from (λ z. same z x) (k + 1) ys ≡ reply_of (how_near ys x (suc k)) → cond t (Some k) (position_from (λ z. same z x) (k + 1) ys) ≡ reply_of (pick t (k ∷ []) (how_near ys x (suc k)))
+    by true h = refl
+    by false h = h
 
 -- a name that has bytes, among names that are whole
 pub says_reply : (bs x : List ℕ) (r : Result (Option ℕ) LookError) → 0 < length x → length bs % length x ≡ 0 → r ≡ Ok (reply_of (how_near (cut (length bs / (length x)) (length x) bs) x 0)) →

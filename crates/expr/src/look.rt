@@ -1,6 +1,7 @@
 // Looking a name up among names of its own length, and the smaller of two numbers.
-ghost use Rattle.std.specs.Prelude.{◌≡◌};
-ghost use Rattle.expr.specs.Look.{error_number, refusal, LookSays, smaller};
+ghost use Rattle.std.specs.Prelude.{◌≡◌, ◌/◌, ◌<◌, length};
+ghost use Rattle.language.specs.Bare.{how_near};
+ghost use Rattle.expr.specs.Look.{cut, error_number, refusal, reply_of, LookSays, smaller};
 
 use crate::bytes::same_bytes;
 
@@ -24,6 +25,16 @@ impl From<LookError> for u64 {
     }
 }
 
+// How many pieces of the name's length stand before the first that is the name.
+fn first_of(names: &[u8], name: &[u8]) -> Option<usize>
+    requires { 0 < length name.now }
+    ensures { result ≡ reply_of (how_near (cut (length names.now / (length name.now)) (length name.now) names.now) name.now 0) }
+{
+    names
+        .chunks_exact(name.len())
+        .position(|other| same_bytes(other, name))
+}
+
 // How many names stand before it, where a name stands first among names of its length, which follow one another with nothing between them.
 pub fn look(names: &[u8], name: &[u8]) -> Result<Option<u64>, LookError>
     ensures { LookSays names.now name.now (refusal names.now name.now) result }
@@ -35,14 +46,7 @@ pub fn look(names: &[u8], name: &[u8]) -> Result<Option<u64>, LookError>
     if names.len() % width != 0 {
         return Err(LookError::BrokenNames);
     }
-    // `chunks_exact(width).position(..)` was tried: where each of the pieces lies was not proved.
-    for before in 0..names.len() / width {
-        let from = before * width;
-        if same_bytes(&names[from..from + width], name) {
-            return Ok(Some(before as u64));
-        }
-    }
-    Ok(None)
+    Ok(first_of(names, name).map(|before| before as u64))
 }
 
 pub fn smaller_of(a: u64, b: u64) -> u64
