@@ -12,7 +12,7 @@ use expr::source::{Source, Text};
 use expr::token::{Kind, Span, read_token};
 
 // What is called in the program by the name in the span is to be called `to`.
-#[derive(Drop)]
+#[derive_where(Clone, Copy)]
 pub struct Renaming<'a, S: Source> {
     pub program: &'a S,
     pub from: Span,

@@ -20,7 +20,7 @@ use std::ops::ControlFlow;
 pub const MAX_USES: usize = 8192;
 
 // A node on the way, with its scope, and whether it is a use that changes.
-#[derive(Clone, Copy)]
+#[derive(Clone, Copy, Debug, PartialEq, Eq)]
 pub struct Seen {
     pub node: Node,
     pub scope: Scope,
