@@ -1,5 +1,5 @@
 -- One name after the other, and then the rest.
-use Rattle.std.proofs.Common.{rules, ℕ, ◌+◌, length, min, Some, None, refl, sym, ap, ◌∙◌, arith}
+use Rattle.std.proofs.Common.{rules, ℕ, ◌+◌, length, min, None, refl, sym, ap, ◌∙◌, arith}
 use Rattle.std.proofs.lemmas.List.Edits.{length-between}
 use Rattle.language.specs.Bytes.{with_length}
 use Rattle.memory.proofs.BuildFacts.{pushed_then, appends_then, appends_stop}
@@ -24,13 +24,14 @@ returns-in_err-append_name-clause-value g c =
 pub loop-at-preserved : goal.loop-at-preserved
 loop-at-preserved g c =
     let bs = g.S.Source.bytes c.args.renaming.now.program.now in
-    let most : ℕ = 18446744073709551615 in
-    (c.in_ok-append_name.ensures.same_reference ∙ c.in_ok-append.ensures.same_reference ∙ c.loop-at.invariant.0,
-    splice_more _ _ _ _ _ _ _ _ c.loop-at.invariant.1 (omega arith) _ refl _
-    (pushed_then _ _ _ (with_length c.args.renaming.now.to.now) c.append_name.new.self c.in_ok-append.ensures.value c.in_ok-append_name.ensures.value)
-    _ most c.len-width.result (omega (arith, c.len-len.ensures, c.len-len.type_inv))
-    (omega (arith, ap length (c.within.ensures.same bs (sym c.len-len.ensures)), length-between bs c.within.result.from c.within.result.to (omega (arith, c.within.ensures.inside, c.len-len.ensures)), c.len-width.ensures))
-    (c.saturating_add-from.ensures ∙ ap (λ k. min (k + c.len-width.result) most) c.saturating_add.ensures))
+    let most : ℕ = 18446744073709551615 in (
+      c.in_ok-append_name.ensures.same_reference ∙ c.in_ok-append.ensures.same_reference ∙ c.loop-at.invariant.0,
+      splice_more _ _ _ _ _ _ _ _ c.loop-at.invariant.1 (omega arith) _ refl _
+          (pushed_then _ _ _ (with_length c.args.renaming.now.to.now) c.append_name.new.self c.in_ok-append.ensures.value c.in_ok-append_name.ensures.value)
+          _ most c.len-width.result (omega (arith, c.len-len.ensures, c.len-len.type_inv))
+          (omega (arith, ap length (c.within.ensures.same bs (sym c.len-len.ensures)), length-between bs c.within.result.from c.within.result.to (omega (arith, c.within.ensures.inside, c.len-len.ensures)), c.len-width.ensures))
+          (c.saturating_add-from.ensures ∙ ap (λ k. min (k + c.len-width.result) most) c.saturating_add.ensures),
+    )
 
 pub returns-in_err-append-2-clause-value : goal.returns-in_err-append-2-clause-value
 returns-in_err-append-2-clause-value g c =
