@@ -160,6 +160,7 @@ fn walk_through<S: Source>(
     ensures few { IfSome result (λ n. n ≤ 8192) }
 {
     let mut walk = first;
+    // At most so many heads are read, as `uses_from` has it: no index is counted here.
     for _ in 0..renaming.program.len() {
         match visit_next(renaming, walk, frames, list)? {
             ControlFlow::Continue(next) => walk = next,
