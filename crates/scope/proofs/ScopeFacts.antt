@@ -1,5 +1,8 @@
 -- The scope of a node along who holds it, case by case. Assumes nothing.
-use Rattle.std.proofs.Common.{◌≡◌, ℕ, eqb, List, Some, None, Option, sym, refl, ap, ◌∙◌, eq-eqb, ne_eqb}
+use Rattle.std.proofs.Common.{◌≡◌, ℕ, Bool, true, false, eqb, List, Some, None, Option, sym, refl, ap, ◌∙◌, subst, eq-eqb, ne_eqb, eqb-true}
+use Rattle.std.proofs.lemmas.Bool.{eqb-false}
+use Rattle.std.specs.Bool.{then_some}
+use Rattle.std.specs.Prelude.{MatchOption, ⊤}
 use Rattle.expr.specs.declared.node.Holder.{Holder}
 use Rattle.expr.specs.declared.token.Span.{Span}
 use Rattle.expr.specs.declared.token.Kind.{Kind}
@@ -30,6 +33,40 @@ module _ (bs : List ℕ) (x y : bytes.Name) (h : Option Holder) (s : Scope) wher
     pub scope-second : k.part ≡ 1 → (o : Option Token) → o ≡ head_at bs k.at → (r : Scope) → r ≡ token_scope x y s o → r ≡ scope_in bs x y (holder_told h) s
     scope-second p o f r q =
         q ∙ ap (token_scope x y s) f ∙ sym (held ∙ ap (λ t. pick t (token_scope x y s (head_at bs k.at)) s) (eq-eqb k.part 1 p))
+
+some_not_none : (k : Holder) → None ≡ Some k → ⊥
+some_not_none k e = subst (λ (o : Option Holder). MatchOption o ⊥ (λ x. ⊤)) (sym e) tt
+
+abbrev part_of : Option Holder → ℕ
+part_of None = 0
+part_of (Some k) = k.part
+
+-- the holder of a second part, as a filter gives it
+module _ (R : Holder → Bool → Type 0) (told : (k : Holder) (b : Bool) → R k b → b ≡ eqb k.part 1) (h r : Option Holder) where
+  abbrev Filtered : Option Holder → Type 0
+  Filtered o = MatchOption o (r ≡ None) (λ k. (b : Bool) × R k b × (r ≡ then_some b k))
+
+  pub some_second : Filtered h → (k : Holder) → r ≡ Some k → (h ≡ Some k) × (k.part ≡ 1)
+  some_second f k e = go h refl f
+    where
+      by : (l : Holder) (b : Bool) → b ≡ eqb l.part 1 → r ≡ then_some b l → h ≡ Some l → (h ≡ Some k) × (k.part ≡ 1)
+      by l true t q is = (is ∙ sym q ∙ e, sym (ap part_of (sym q ∙ e)) ∙ eqb-true l.part 1 (sym t))
+      by l false t q is = absurd (some_not_none k (sym q ∙ e))
+
+      go : (o : Option Holder) → h ≡ o → Filtered o → (h ≡ Some k) × (k.part ≡ 1)
+      go None is m = absurd (some_not_none k (sym m ∙ e))
+      go (Some l) is m = by l m.0 (told l m.0 m.1) m.2 is
+
+  pub none_second : (bs : List ℕ) (x y : bytes.Name) (s : Scope) → Filtered h → r ≡ None → s ≡ scope_in bs x y (holder_told h) s
+  none_second bs x y s f e = go h refl f
+    where
+      by : (l : Holder) (b : Bool) → b ≡ eqb l.part 1 → r ≡ then_some b l → h ≡ Some l → s ≡ scope_in bs x y (holder_told h) s
+      by l true t q is = absurd (some_not_none l (sym e ∙ q))
+      by l false t q is = scope_other bs x y h s l is (eqb-false l.part 1 (sym t))
+
+      go : (o : Option Holder) → h ≡ o → Filtered o → s ≡ scope_in bs x y (holder_told h) s
+      go None is m = scope-first bs x y h s is
+      go (Some l) is m = by l m.0 (told l m.0 m.1) m.2 is
 
 -- only a let gives a name
 pub not_let : (bs : List ℕ) (x y : bytes.Name) (s : Scope) (k : Kind) → ((n : Span) → k ≡ Let n → ⊥) → s ≡ head_scope x y s (kind_told bs k)

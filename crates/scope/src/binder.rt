@@ -69,6 +69,8 @@ pub fn own_name<S: Source>(src: &S, function: usize, index: u8) -> Option<Binder
 }
 
 // The own names of the function there, in their order.
+// A row and a place in it stay two parameters: a struct of both would be made by each caller for one call, and one that also had where the
+// name ends would ask of callers that a name ends there.
 fn own_names<S: Source>(src: &S, function: usize) -> Option<Names<'_, S>>
     ensures value { names_told S.bytes result ≡ own_names (S.bytes src.now) function }
     ensures row { IfSome result (λ names. names.src.now ≡ src.now) }

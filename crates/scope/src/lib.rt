@@ -6,4 +6,4 @@ mod frames;
 pub mod renaming;
 pub mod replace;
 pub mod uses;
-mod walk;
+pub mod walk;

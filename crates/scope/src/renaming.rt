@@ -12,7 +12,7 @@ use expr::source::{Source, Text};
 use expr::token::{Kind, Span, read_token};
 
 // What is called in the program by the name in the span is to be called `to`.
-#[derive(Drop)]
+#[derive_where(Clone, Copy)]
 pub struct Renaming<'a, S: Source> {
     pub program: &'a S,
     pub from: Span,
@@ -70,12 +70,9 @@ impl<S: Source> Renaming<'_, S> {
     pub fn scope_of(&self, holder: Option<Holder>, around: Scope) -> Scope
         ensures { let bs = S.bytes self.now.program.now in scope_told result ≡ scope_in bs (spelled_in bs self.now.from) self.now.to.now (holder_told holder) (scope_told around) }
     {
-        let Some(held) = holder else {
+        let Some(held) = holder.filter(|held| held.part == 1) else {
             return around;
         };
-        if held.part != 1 {
-            return around;
-        }
         let Some(token) = read_token(self.program, held.at) else {
             return around;
         };

@@ -20,7 +20,7 @@ use std::ops::ControlFlow;
 pub const MAX_USES: usize = 8192;
 
 // A node on the way, with its scope, and whether it is a use that changes.
-#[derive(Clone, Copy)]
+#[derive(Clone, Copy, Debug, PartialEq, Eq)]
 pub struct Seen {
     pub node: Node,
     pub scope: Scope,
@@ -160,6 +160,7 @@ fn walk_through<S: Source>(
     ensures few { IfSome result (λ n. n ≤ 8192) }
 {
     let mut walk = first;
+    // At most so many heads are read, as `uses_from` has it: no index is counted here.
     for _ in 0..renaming.program.len() {
         match visit_next(renaming, walk, frames, list)? {
             ControlFlow::Continue(next) => walk = next,

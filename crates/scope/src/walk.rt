@@ -4,7 +4,7 @@ ghost use Rattle.std.specs.Prelude.{◌≤◌};
 use crate::renaming::Scope;
 use expr::node::Holder;
 
-#[derive(Clone, Copy)]
+#[derive(Clone, Copy, Debug, PartialEq, Eq)]
 pub struct Walk {
     // Where the next expression begins, who holds it, and the scope around that.
     pub at: usize,
