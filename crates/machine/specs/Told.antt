@@ -52,6 +52,17 @@ pub record Tells (s : Step) (r : Told) (out memory₁ out₁ : List ℕ) : Type 
   pub memory : memory₁ ≡ s.memory
   pub act : ActTold s.act r out out₁
 
+-- an act that shows nothing, as it is told
+unfoldable pub DoneTold : Act → Told → Type 0
+DoneTold (shows s) r = ⊥
+DoneTold done r = r ≡ Ok None
+DoneTold (refused k) r = RefusedWith k r
+
+-- a step that shows nothing as it is told, and the memory after it
+pub record Does (s : Step) (r : Told) (memory₁ : List ℕ) : Type 0 where
+  pub memory : memory₁ ≡ s.memory
+  pub act : DoneTold s.act r
+
 -- one step: for memories of the machine's own length and a lent row of 131,072 bytes; for others it is misuse, whose number is 0, and nothing is changed
 unfoldable pub StepSays : Engine → (memory : List ℕ) (kind : ℕ) (text out : List ℕ) → Bool → Told → (memory₁ out₁ : List ℕ) → Type 0
 StepSays e memory kind text out true r memory₁ out₁ = Tells (e.step memory (event_of kind text)) r out memory₁ out₁

@@ -2,7 +2,7 @@
 ghost use Rattle.std.specs.Prelude.{◌≡◌};
 ghost use Rattle.machine.specs.History.{moved_down, moved_up, placed, committed};
 ghost use Rattle.machine.specs.Machine.{undo_step};
-ghost use Rattle.machine.specs.Told.{Tells};
+ghost use Rattle.machine.specs.Told.{Does};
 
 use crate::told::{Refusal, Told};
 use memory::layout::{
@@ -34,8 +34,8 @@ fn place(memory: &mut Memory, len: u64)
 }
 
 // The program before the current one is the current one again.
-pub fn undo(memory: &mut Memory, out: &mut [u8]) -> Told
-    ensures { Tells (undo_step memory.old) result out.old memory.new out.new }
+pub fn undo(memory: &mut Memory) -> Told
+    ensures { Does (undo_step memory.old) result memory.new }
 {
     let older = memory[OLDER];
     if older == 0 {

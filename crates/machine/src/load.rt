@@ -7,7 +7,7 @@ ghost use Rattle.language.specs.Table.{hash, table_from, none_like, all_differ};
 ghost use Rattle.machine.specs.Entries.{entries};
 ghost use Rattle.machine.specs.History.{loaded};
 ghost use Rattle.machine.specs.Machine.{table_cleared, load_step};
-ghost use Rattle.machine.specs.Told.{Tells};
+ghost use Rattle.machine.specs.Told.{Does};
 
 use crate::region::clear;
 use crate::told::{Refusal, Told};
@@ -149,8 +149,8 @@ fn store(memory: &mut Memory, program: Spelling<'_>)
 }
 
 // The program becomes the current one if its names differ.
-pub fn load(memory: &mut Memory, program: Spelling<'_>, out: &mut [u8]) -> Told
-    ensures { Tells (load_step memory.old program.entry.bytes.now) result out.old memory.new out.new }
+pub fn load(memory: &mut Memory, program: Spelling<'_>) -> Told
+    ensures { Does (load_step memory.old program.entry.bytes.now) result memory.new }
 {
     if !names_differ(memory, program) {
         return Err(Refusal::NameTaken);
