@@ -9,7 +9,8 @@ use memory::layout::{
     BUILD, CURRENT, FRAMES, LAST_SLOT, LENGTHS, MAX_OLDER, Memory, NEWEST_OLDER, OLDER, SLOTS,
 };
 
-// Lengths and slots move down by one: each program is the one before it, and the last stays.
+// Lengths and slots move down by one: each program is the one before it, and the last stays. Moving up goes in the opposite direction, with other
+// starts and ends: one function of both would be no plainer.
 fn move_down(memory: &mut Memory)
     ensures { memory.new ≡ moved_down memory.old }
 {
