@@ -41,6 +41,7 @@ fn pack(words: &mut [u64], text: &[u8])
     ensures { words.new ≡ packed text.now ++ drop (words_for (length text.now)) words.old }
 {
     let (whole, last) = text.as_chunks::<8>();
+    // By a number, since after `iter_mut` with `zip` nothing is known of the words: tried.
     for (k, bytes) in whole.iter().enumerate() {
         words[k] = u64::from_be_bytes(*bytes);
     }
