@@ -12,19 +12,18 @@ use Rattle.machine.specs.declared.told.Refusal.TheVariants.{Misuse, Missing, Not
 use Rattle.memory.specs.Layout.{older, held}
 use Rattle.machine.specs.History.{gone_back}
 use Rattle.machine.specs.Machine.{stepped, function_row, row_shown, show_step, row, name_row, name_shown, names_step, undo_step}
-use Rattle.machine.specs.Told.{Told, Tells}
-use Rattle.machine.proofs.StepFacts.{tells_no, tells_done, tells_row}
+use Rattle.machine.specs.Told.{Told, Tells, Does}
+use Rattle.machine.proofs.StepFacts.{does_no, does_done, tells_no, tells_done, tells_row}
 
-pub undo_none : (m out : List ℕ) (r : Told) → older m ≡ 0 → r ≡ Err NothingBefore → Tells (undo_step m) r out m out
+pub undo_none : (m : List ℕ) (r : Told) → older m ≡ 0 → r ≡ Err NothingBefore → Does (undo_step m) r m
 unfolding undo_step
-undo_none m out r e n =
-    subst (λ t. Tells (pick t (stepped m (refused 9)) (stepped (gone_back m) done)) r out m out) (sym (eq-eqb (older m) 0 e)) (tells_no m out r NothingBefore n)
+undo_none m r e n = subst (λ t. Does (pick t (stepped m (refused 9)) (stepped (gone_back m) done)) r m) (sym (eq-eqb (older m) 0 e)) (does_no m r NothingBefore n)
 
-pub undo-done : (m out m₁ : List ℕ) → (older m ≡ 0 → ⊥) → m₁ ≡ gone_back m → Tells (undo_step m) (Ok None) out m₁ out
+pub undo-done : (m m₁ : List ℕ) → (older m ≡ 0 → ⊥) → m₁ ≡ gone_back m → Does (undo_step m) (Ok None) m₁
 unfolding undo_step
-undo-done m out m₁ e g =
-    subst (λ t. Tells (pick t (stepped m (refused 9)) (stepped (gone_back m) done)) (Ok None) out m₁ out) (sym (ne_eqb (older m) 0 e))
-    (subst (λ n. Tells (stepped (gone_back m) done) (Ok None) out n out) (sym g) (tells_done (gone_back m) out))
+undo-done m m₁ e g =
+    subst (λ t. Does (pick t (stepped m (refused 9)) (stepped (gone_back m) done)) (Ok None) m₁) (sym (ne_eqb (older m) 0 e))
+    (subst (λ n. Does (stepped (gone_back m) done) (Ok None) n) (sym g) (does_done (gone_back m)))
 
 pub told_as : (s : Step) (r r₁ : Told) (out m₁ out₁ : List ℕ) → r₁ ≡ r → Tells s r out m₁ out₁ → Tells s r₁ out m₁ out₁
 told_as s r r₁ out m₁ out₁ e t = subst (λ a. Tells s a out m₁ out₁) (sym e) t

@@ -1,8 +1,8 @@
 -- Entries of the table of functions: how it is written, and how it is compared, one entry after the other. Assumes nothing.
-use Rattle.std.proofs.Common.{◌≡◌, ℕ, zero, suc, Bool, Option, ◌+◌, ◌-◌, ◌<◌, ◌≤◌, true, false, not, ◌&&◌, eqb, List, [], ◌∷◌, ◌++◌, length, get_or, take, drop, set, Some, None, sym, refl, ap, ap₂, ◌∙◌, arith, eq-eqb, ne_eqb}
-use Rattle.std.specs.List.{between}
+use Rattle.std.proofs.Common.{◌≡◌, ℕ, zero, suc, Bool, Option, ◌+◌, ◌-◌, ◌<◌, ◌≤◌, true, false, not, ◌&&◌, eqb, List, [], ◌∷◌, ◌++◌, length, get_or, take, drop, set, Some, None, sym, refl, ap, ◌∙◌, arith}
+use Rattle.std.specs.List.{between, list_all}
 use Rattle.std.specs.Prelude.{IfSome, nat_le}
-use Rattle.std.proofs.lemmas.List.{append-nil, append_assoc, take_more_set, take_rest, at_drop_more, at_drop_all}
+use Rattle.std.proofs.lemmas.List.{append-nil, append_assoc, take_more_set, take_rest}
 use Rattle.language.specs.Basics.{same, pick, flat}
 use Rattle.language.specs.Contents.{listed, name_there}
 use Rattle.language.specs.Reading.{number_at, name_end, fun_end, found}
@@ -98,60 +98,39 @@ entry_is (a ∷ []) l = absurd (omega arith)
 entry_is (a ∷ b ∷ []) l = refl
 entry_is (a ∷ b ∷ c ∷ e) l = absurd (omega arith)
 
--- the entries from the kth on, each of two words
-module _ (t : List (List ℕ)) (k : ℕ) where
-  entries_end : length t ≤ k → entries (drop k t) ≡ []
-  entries_end h = at_drop_all entries t k h
+-- the names of this entry and of the function at o, whose name comes to h, are not the same
+abbrev pub apart : List ℕ → ℕ → ℕ → List ℕ → Bool
+apart bs h o e = not (eqb h (get_or e 0 0) && same (name_there bs o) (name_there bs (get_or e 1 0)))
 
-  pub like_end : (bs : List ℕ) (h o : ℕ) → length t ≤ k → none_like bs h o (entries (drop k t)) ≡ true
-  unfolding none_like
-  like_end bs h o l = ap (none_like bs h o) (entries_end l)
+-- entries of two words each, one after the other
+abbrev pub Twos : List (List ℕ) → Type 0
+Twos t = (k : ℕ) → k < length t → length (get_or t k []) ≡ 2
 
-  pub all_end : (bs : List ℕ) → length t ≤ k → all_differ bs (entries (drop k t)) ≡ true
-  unfolding all_differ
-  all_end bs l = ap (all_differ bs) (entries_end l)
+entries_more : (e : List ℕ) (t : List (List ℕ)) → Twos (e ∷ t) → entries (e ∷ t) ≡ get_or e 0 0 ∷ get_or e 1 0 ∷ entries t
+entries_more e t two = ap (λ l. l ++ entries t) (entry_is e (two 0 (omega arith)))
 
-  module _ (h : k < length t) (two : length (get_or t k []) ≡ 2) where
-    abbrev hash_there : ℕ
-    hash_there = get_or (get_or t k []) 0 0
+twos_more : (e : List ℕ) (t : List (List ℕ)) → Twos (e ∷ t) → Twos t
+twos_more e t two k h = two (suc k) (omega arith)
 
-    abbrev place_there : ℕ
-    place_there = get_or (get_or t k []) 1 0
+pub like_listed : (bs : List ℕ) (h o : ℕ) (t : List (List ℕ)) → Twos t → list_all (apart bs h o) t ≡ none_like bs h o (entries t)
+unfolding none_like
+like_listed bs h o [] two = refl
+like_listed bs h o (e ∷ t) two = ap (λ b. apart bs h o e && b) (like_listed bs h o t (twos_more e t two)) ∙ sym (ap (none_like bs h o) (entries_more e t two))
 
-    entries_more : entries (drop k t) ≡ hash_there ∷ place_there ∷ entries (drop (k + 1) t)
-    entries_more = at_drop_more entries t k [] h ∙ ap (λ e. e ++ entries (drop (k + 1) t)) (entry_is (get_or t k []) two)
+-- the entries behind the first
+abbrev pub later : List (List ℕ) → List (List ℕ)
+later t = take (length t - 1) (drop 1 t)
 
-    module _ (bs : List ℕ) where
-      all_turn : all_differ bs (entries (drop k t)) ≡ (none_like bs hash_there place_there (entries (drop (k + 1) t)) && all_differ bs (entries (drop (k + 1) t)))
-      unfolding all_differ
-      all_turn = ap (all_differ bs) entries_more
+-- the first entry is like none of the others, which differ
+pub differ_turn : (bs : List ℕ) (t : List (List ℕ)) → 1 ≤ length t → Twos t →
+    all_differ bs (entries t) ≡ (none_like bs (get_or (get_or t 0 []) 0 0) (get_or (get_or t 0 []) 1 0) (entries (later t)) && all_differ bs (entries (later t)))
+unfolding all_differ
+differ_turn bs [] some two = absurd (omega arith)
+differ_turn bs (e ∷ t) some two =
+    ap (all_differ bs) (entries_more e t two)
+    ∙ ap (λ l. none_like bs (get_or e 0 0) (get_or e 1 0) (entries l) && all_differ bs (entries l)) (sym (take_rest (e ∷ t) 1))
 
-      abbrev after : List ℕ
-      after = entries (take (length t - (k + 1)) (drop (k + 1) t))
-
-      pub all_not : false ≡ none_like bs hash_there place_there after → all_differ bs (entries (drop k t)) ≡ false
-      all_not e =
-          all_turn
-          ∙ ap (λ b. b && all_differ bs (entries (drop (k + 1) t))) (ap (λ r. none_like bs hash_there place_there (entries r)) (sym (take_rest t (k + 1))) ∙ sym e)
-
-      pub all_more : true ≡ none_like bs hash_there place_there after → all_differ bs (entries (drop k t)) ≡ all_differ bs (entries (drop (k + 1) t))
-      all_more e =
-          all_turn
-          ∙ ap (λ b. b && all_differ bs (entries (drop (k + 1) t))) (ap (λ r. none_like bs hash_there place_there (entries r)) (sym (take_rest t (k + 1))) ∙ sym e)
-
-      module _ (g o : ℕ) where
-        like_turn : none_like bs g o (entries (drop k t)) ≡ (not (eqb g hash_there && same (name_there bs o) (name_there bs place_there)) && none_like bs g o (entries (drop (k + 1) t)))
-        unfolding none_like
-        like_turn = ap (none_like bs g o) entries_more
-
-        pub like_not : hash_there ≡ g → true ≡ same (name_there bs o) (name_there bs place_there) → none_like bs g o (entries (drop k t)) ≡ false
-        like_not e s = like_turn ∙ ap₂ (λ a b. not (a && b) && none_like bs g o (entries (drop (k + 1) t))) (eq-eqb _ _ (sym e)) (sym s)
-
-        -- told apart by the numbers
-        pub like_apart : (hash_there ≡ g → ⊥) → none_like bs g o (entries (drop k t)) ≡ none_like bs g o (entries (drop (k + 1) t))
-        like_apart e =
-            like_turn ∙ ap (λ a. not (a && same (name_there bs o) (name_there bs place_there)) && none_like bs g o (entries (drop (k + 1) t))) (ne_eqb _ _ (λ q. e (sym q)))
-
-        -- told apart by the names
-        pub like_more : hash_there ≡ g → false ≡ same (name_there bs o) (name_there bs place_there) → none_like bs g o (entries (drop k t)) ≡ none_like bs g o (entries (drop (k + 1) t))
-        like_more e s = like_turn ∙ ap₂ (λ a b. not (a && b) && none_like bs g o (entries (drop (k + 1) t))) (eq-eqb _ _ (sym e)) (sym s)
+pub differ_none : (bs : List ℕ) (t : List (List ℕ)) → length t < 1 → all_differ bs (entries t) ≡ true
+unfolding all_differ
+differ_none bs [] none = refl
+differ_none bs (e ∷ t) none = absurd (omega arith)

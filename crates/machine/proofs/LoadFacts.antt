@@ -22,8 +22,8 @@ use Rattle.model.specs.Engine.{done, refused}
 use Rattle.machine.specs.declared.told.Refusal.TheVariants.{NameTaken}
 use Rattle.machine.specs.History.{loaded}
 use Rattle.machine.specs.Machine.{stepped, table_cleared, load_step}
-use Rattle.machine.specs.Told.{Told, Tells}
-use Rattle.machine.proofs.StepFacts.{tells_no, tells_done}
+use Rattle.machine.specs.Told.{Told, Does}
+use Rattle.machine.proofs.StepFacts.{does_no, does_done}
 
 -- eight bytes after the other
 chunk_is : (n k : ℕ) (xs : List ℕ) → k < n → get_or (first_chunks 8 n xs) k [] ≡ take 8 (drop (k * 8) xs)
@@ -147,15 +147,15 @@ module _ (m table l : List ℕ) (long : length m ≡ memory_words) (e : l ≡ pu
       (drop-put_mid frames_at 2048 m table (frames_at + length (zero_words 2048)) (omega (arith, length-replicate {A = ℕ} 2048 0)) (omega arith) table_long)
 
 -- a load, by whether names differ
-module _ (m bs out m₁ : List ℕ) where
-  pub load-refused : (r : Told) → false ≡ is_fine bs → m₁ ≡ table_cleared m → r ≡ Err NameTaken → Tells (load_step m bs) r out m₁ out
+module _ (m bs m₁ : List ℕ) where
+  pub load-refused : (r : Told) → false ≡ is_fine bs → m₁ ≡ table_cleared m → r ≡ Err NameTaken → Does (load_step m bs) r m₁
   unfolding load_step
   load-refused r f e n =
-      subst (λ t. Tells (pick t (stepped (loaded (table_cleared m) bs) done) (stepped (table_cleared m) (refused 4))) r out m₁ out) f
-      (subst (λ l. Tells (stepped l (refused 4)) r out m₁ out) e (tells_no m₁ out r NameTaken n))
+      subst (λ t. Does (pick t (stepped (loaded (table_cleared m) bs) done) (stepped (table_cleared m) (refused 4))) r m₁) f
+      (subst (λ l. Does (stepped l (refused 4)) r m₁) e (does_no m₁ r NameTaken n))
 
-  pub load-done : (c : List ℕ) → true ≡ is_fine bs → c ≡ table_cleared m → m₁ ≡ loaded c bs → Tells (load_step m bs) (Ok None) out m₁ out
+  pub load-done : (c : List ℕ) → true ≡ is_fine bs → c ≡ table_cleared m → m₁ ≡ loaded c bs → Does (load_step m bs) (Ok None) m₁
   unfolding load_step
   load-done c f e n =
-      subst (λ t. Tells (pick t (stepped (loaded (table_cleared m) bs) done) (stepped (table_cleared m) (refused 4))) (Ok None) out m₁ out) f
-      (subst (λ l. Tells (stepped l done) (Ok None) out m₁ out) (n ∙ ap (λ l. loaded l bs) e) (tells_done m₁ out))
+      subst (λ t. Does (pick t (stepped (loaded (table_cleared m) bs) done) (stepped (table_cleared m) (refused 4))) (Ok None) m₁) f
+      (subst (λ l. Does (stepped l done) (Ok None) m₁) (n ∙ ap (λ l. loaded l bs) e) (does_done m₁))

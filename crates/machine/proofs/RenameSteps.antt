@@ -29,8 +29,8 @@ use Rattle.scope.specs.Splicing.{Replaced}
 use Rattle.machine.specs.Renamed.{with_names, program_renamed, Written}
 use Rattle.machine.specs.declared.told.Refusal.{Refusal}
 use Rattle.machine.specs.declared.told.Refusal.TheVariants.{Captured, TooLarge}
-use Rattle.machine.specs.Told.{Told, Tells}
-use Rattle.machine.proofs.StepFacts.{tells_no, tells_done}
+use Rattle.machine.specs.Told.{Told, Does}
+use Rattle.machine.proofs.StepFacts.{does_no, does_done}
 
 -- what is wiped depends on header, slots and reserve only
 pub wiped-same : (m n : List ℕ) → take build_at n ≡ take build_at m → drop reserve_at n ≡ drop reserve_at m → wiped n ≡ wiped m
@@ -121,85 +121,85 @@ pub written-same : (m bs : List ℕ) → bs ≡ held 0 m → (s : Span) (y : Nam
 written-same m bs e s y k i r a w = subst (λ l. Written (program_renamed l (spelled_in l s) y k i) r a) e w
 
 -- a step by what was found
-module _ {A : Type 0} (o : Option A) (s : Step) (f : A → Step) (r : Told) (out n out₁ : List ℕ) where
-  pub by_none : None ≡ o → Tells s r out n out₁ → Tells (with_some o s f) r out n out₁
-  by_none e t = subst (λ q. Tells (with_some q s f) r out n out₁) e t
+module _ {A : Type 0} (o : Option A) (s : Step) (f : A → Step) (r : Told) (n : List ℕ) where
+  pub by_none : None ≡ o → Does s r n → Does (with_some o s f) r n
+  by_none e t = subst (λ q. Does (with_some q s f) r n) e t
 
-  pub by_some : (a : A) → Some a ≡ o → Tells (f a) r out n out₁ → Tells (with_some o s f) r out n out₁
-  by_some a e t = subst (λ q. Tells (with_some q s f) r out n out₁) e t
+  pub by_some : (a : A) → Some a ≡ o → Does (f a) r n → Does (with_some o s f) r n
+  by_some a e t = subst (λ q. Does (with_some q s f) r n) e t
 
 -- the renaming itself, by what was listed and whether there is room
-module _ (m : List ℕ) (y : Name) (b : Binder) (out : List ℕ) (r : Told) (n : List ℕ) where
-  pub renamed_captured : None ≡ uses_of (held 0 m) b.name y b.at b.body → n ≡ wiped m → r ≡ Err Captured → Tells (renamed_step m y b) r out n out
+module _ (m : List ℕ) (y : Name) (b : Binder) (r : Told) (n : List ℕ) where
+  pub renamed_captured : None ≡ uses_of (held 0 m) b.name y b.at b.body → n ≡ wiped m → r ≡ Err Captured → Does (renamed_step m y b) r n
   unfolding renamed_step
-  renamed_captured e w k = by_none _ _ _ r out n out e (subst (λ l. Tells (stepped l (refused 5)) r out n out) w (tells_no n out r Captured k))
+  renamed_captured e w k = by_none _ _ _ r n e (subst (λ l. Does (stepped l (refused 5)) r n) w (does_no n r Captured k))
 
   module _ (us : List ℕ) (e : Some us ≡ uses_of (held 0 m) b.name y b.at b.body) where
     abbrev new : List ℕ
     new = names_replaced (held 0 m) b.name y us
 
-    pub renamed_large : 65536 < length new → n ≡ wiped m → r ≡ Err TooLarge → Tells (renamed_step m y b) r out n out
+    pub renamed_large : 65536 < length new → n ≡ wiped m → r ≡ Err TooLarge → Does (renamed_step m y b) r n
     unfolding renamed_step
     renamed_large l w k =
-        by_some _ _ _ r out n out us e
-        (subst (λ t. Tells (pick t (stepped (changed m new) done) (stepped (wiped m) (refused 7))) r out n out) (sym (lt-leb (length new) 65536 l))
-        (subst (λ l. Tells (stepped l (refused 7)) r out n out) w (tells_no n out r TooLarge k)))
+        by_some _ _ _ r n us e
+        (subst (λ t. Does (pick t (stepped (changed m new) done) (stepped (wiped m) (refused 7))) r n) (sym (lt-leb (length new) 65536 l))
+        (subst (λ l. Does (stepped l (refused 7)) r n) w (does_no n r TooLarge k)))
 
-    pub renamed-done : length new ≤ 65536 → n ≡ changed m new → r ≡ Ok None → Tells (renamed_step m y b) r out n out
+    pub renamed-done : length new ≤ 65536 → n ≡ changed m new → r ≡ Ok None → Does (renamed_step m y b) r n
     unfolding renamed_step
     renamed-done l w k =
-        by_some _ _ _ r out n out us e
-        (subst (λ t. Tells (pick t (stepped (changed m new) done) (stepped (wiped m) (refused 7))) r out n out) (sym (le-leb (length new) 65536 l))
-        (subst (λ l. Tells (stepped l done) r out n out) w (subst (λ q. Tells (stepped n done) q out n out) (sym k) (tells_done n out))))
+        by_some _ _ _ r n us e
+        (subst (λ t. Does (pick t (stepped (changed m new) done) (stepped (wiped m) (refused 7))) r n) (sym (le-leb (length new) 65536 l))
+        (subst (λ l. Does (stepped l done) r n) w (subst (λ q. Does (stepped n done) q n) (sym k) (does_done n))))
 
   -- by what was written of the new program
   module _ (a : List ℕ) where
-    pub renamed-err : (w : Refusal) → Written (program_renamed (held 0 m) b.name y b.at b.body) (Err w) a → n ≡ wiped m → r ≡ Err w → Tells (renamed_step m y b) r out n out
+    pub renamed-err : (w : Refusal) → Written (program_renamed (held 0 m) b.name y b.at b.body) (Err w) a → n ≡ wiped m → r ≡ Err w → Does (renamed_step m y b) r n
     renamed-err w p left told = go (uses_of (held 0 m) b.name y b.at b.body) refl p
       where
-        go : (o : Option (List ℕ)) → o ≡ uses_of (held 0 m) b.name y b.at b.body → Written (with_names (held 0 m) b.name y o) (Err w) a → Tells (renamed_step m y b) r out n out
+        go : (o : Option (List ℕ)) → o ≡ uses_of (held 0 m) b.name y b.at b.body → Written (with_names (held 0 m) b.name y o) (Err w) a → Does (renamed_step m y b) r n
         go None e q = renamed_captured e left (told ∙ ap (λ v. Err v) q)
         go (Some us) e q = renamed_large us e q.1 left (told ∙ ap (λ v. Err v) q.0)
 
     pub renamed-ok : (k : ℕ) → Written (program_renamed (held 0 m) b.name y b.at b.body) (Ok k) a → ((bs : List ℕ) → k ≡ length bs → a ≡ slot_filled bs → n ≡ changed m bs) → r ≡ Ok None →
-        Tells (renamed_step m y b) r out n out
+        Does (renamed_step m y b) r n
     renamed-ok k p left told = go (uses_of (held 0 m) b.name y b.at b.body) refl p
       where
-        go : (o : Option (List ℕ)) → o ≡ uses_of (held 0 m) b.name y b.at b.body → Written (with_names (held 0 m) b.name y o) (Ok k) a → Tells (renamed_step m y b) r out n out
+        go : (o : Option (List ℕ)) → o ≡ uses_of (held 0 m) b.name y b.at b.body → Written (with_names (held 0 m) b.name y o) (Ok k) a → Does (renamed_step m y b) r n
         go None e q = absurd q
         go (Some us) e q = renamed-done us e q.1 (left (names_replaced (held 0 m) b.name y us) q.0 q.2) told
 
 -- both steps, in bytes that are the current program's
-module _ (m bs : List ℕ) (e : bs ≡ held 0 m) (y : Name) (r : Told) (out n out₁ : List ℕ) where
+module _ (m bs : List ℕ) (e : bs ≡ held 0 m) (y : Name) (r : Told) (n : List ℕ) where
   pub bind_as : (x : Name) (ks : List ℕ) →
-      Tells
+      Does
       (with_some (find_function bs x) (stepped m (refused 3))
       (λ o. with_some (body_of bs o) (stepped m (refused 3))
       (λ b. with_some (place_at bs ks b) (stepped m (refused 3)) (λ i. with_some (let_at bs i) (stepped m (refused 6)) (λ l. renamed_step m y l)))))
-      r out n out₁ →
-      Tells (rename_bind_step m x ks y) r out n out₁
+      r n →
+      Does (rename_bind_step m x ks y) r n
   unfolding rename_bind_step
   bind_as x ks t =
       subst
-      (λ bs. Tells
+      (λ bs. Does
       (with_some (find_function bs x) (stepped m (refused 3))
       (λ o. with_some (body_of bs o) (stepped m (refused 3))
       (λ b. with_some (place_at bs ks b) (stepped m (refused 3)) (λ i. with_some (let_at bs i) (stepped m (refused 6)) (λ l. renamed_step m y l)))))
-      r out n out₁) e t
+      r n) e t
 
   pub param_as : (x : Name) (i : ℕ) →
-      Tells
+      Does
       (with_some (find_function bs x) (stepped m (refused 3))
       (λ o. with_some (own_binder bs o i) (stepped m (refused 3)) (λ b. pick (has (others (own_names bs o) i) y) (stepped m (refused 5)) (renamed_step m y b))))
-      r out n out₁ →
-      Tells (rename_param_step m x i y) r out n out₁
+      r n →
+      Does (rename_param_step m x i y) r n
   unfolding rename_param_step
   param_as x i t =
       subst
-      (λ bs. Tells
+      (λ bs. Does
       (with_some (find_function bs x) (stepped m (refused 3))
       (λ o. with_some (own_binder bs o i) (stepped m (refused 3)) (λ b. pick (has (others (own_names bs o) i) y) (stepped m (refused 5)) (renamed_step m y b))))
-      r out n out₁) e t
+      r n) e t
 
-pub by_test : (t : Bool) (s u : Step) (r : Told) (out n out₁ : List ℕ) (v : Bool) → v ≡ t → Tells (pick v s u) r out n out₁ → Tells (pick t s u) r out n out₁
-by_test t s u r out n out₁ v e p = subst (λ b. Tells (pick b s u) r out n out₁) e p
+pub by_test : (t : Bool) (s u : Step) (r : Told) (n : List ℕ) (v : Bool) → v ≡ t → Does (pick v s u) r n → Does (pick t s u) r n
+by_test t s u r n v e p = subst (λ b. Does (pick b s u) r n) e p

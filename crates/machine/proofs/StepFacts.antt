@@ -14,15 +14,31 @@ use Rattle.machine.specs.declared.told.Refusal.{Refusal}
 use Rattle.machine.specs.declared.told.Refusal.TheVariants.{Misuse}
 use Rattle.memory.specs.Layout.{memory_words, mark, memory_fits}
 use Rattle.machine.specs.Machine.{stepped, ask_step, names_step, gone_on, obeyed, by_event, own}
-use Rattle.machine.specs.Told.{refusal_number, Told, RefusedWith, event_of, ActTold, Tells, StepSays, step_fits}
+use Rattle.machine.specs.Told.{refusal_number, Told, RefusedWith, event_of, ActTold, Tells, DoneTold, Does, StepSays, step_fits}
+
+pub does_no : (m : List ℕ) (r : Told) (why : Refusal) → r ≡ Err why → Does (stepped m (refused (refusal_number why))) r m
+unfolding DoneTold
+does_no m r why e = record { memory = refl; act = subst (RefusedWith (refusal_number why)) (sym e) refl }
+
+pub does_done : (m : List ℕ) → Does (stepped m done) (Ok None) m
+unfolding DoneTold
+does_done m = record { memory = refl; act = refl }
+
+-- what shows nothing leaves the lent row as it is
+pub told_done : (s : Step) (r : Told) (m₁ out : List ℕ) → Does s r m₁ → Tells s r out m₁ out
+unfolding DoneTold ActTold
+told_done s r m₁ out d = record { memory = d.memory; act = go s.act d.act }
+  where
+    go : (a : Act) → DoneTold a r → ActTold a r out out
+    go (shows bs) t = absurd t
+    go done t = (t, refl)
+    go (refused k) t = (t, refl)
 
 pub tells_no : (m out : List ℕ) (r : Told) (why : Refusal) → r ≡ Err why → Tells (stepped m (refused (refusal_number why))) r out m out
-unfolding ActTold
-tells_no m out r why e = record { memory = refl; act = (subst (RefusedWith (refusal_number why)) (sym e) refl, refl) }
+tells_no m out r why e = told_done _ _ _ _ (does_no m r why e)
 
 pub tells_done : (m out : List ℕ) → Tells (stepped m done) (Ok None) out m out
-unfolding ActTold
-tells_done m out = record { memory = refl; act = (refl, refl) }
+tells_done m out = told_done _ _ _ _ (does_done m)
 
 pub tells_row : (m out s : List ℕ) (r : Told) (out₁ : List ℕ) → r ≡ Ok (Some (length s)) → out₁ ≡ s ++ drop (length s) out → Tells (stepped m (shows s)) r out m out₁
 unfolding ActTold

@@ -1,5 +1,5 @@
 -- How a step of a machine is told to the world outside. Assumes nothing: these are definitions.
-use Rattle.std.specs.Prelude.{◌≡◌, ℕ, ◌<◌, Bool, true, false, ◌&&◌, List, ◌++◌, length, drop, Option, Some, None, Result, Ok, Err, ◌==◌, nat_le}
+use Rattle.std.specs.Prelude.{◌≡◌, ℕ, ◌<◌, Bool, true, false, ◌&&◌, List, ◌++◌, length, drop, Option, Some, None, Result, Ok, Err, ◌==◌, nat_le, codes}
 use Rattle.language.specs.Basics.{pick}
 use Rattle.model.specs.Engine.{Event, said, next, Act, shows, done, refused, Step, Engine}
 use Rattle.machine.specs.declared.step.Kind.{Kind}
@@ -18,6 +18,18 @@ refusal_number Captured = 5
 refusal_number WrongKind = 6
 refusal_number TooLarge = 7
 refusal_number NothingBefore = 9
+
+-- each refusal as it is said
+abbrev pub refusal_text : Refusal → List ℕ
+refusal_text Misuse = codes "lengths, kind or header are out of their limits, or there is nothing to go on with"
+refusal_text NotACommand = codes "these bytes are no command"
+refusal_text NotKnown = codes "this command is not known yet"
+refusal_text Missing = codes "there is no such function, parameter or place"
+refusal_text NameTaken = codes "the name is taken"
+refusal_text Captured = codes "what the program means would change"
+refusal_text WrongKind = codes "what is there is of the wrong kind, or protected"
+refusal_text TooLarge = codes "the program would be too large"
+refusal_text NothingBefore = codes "there is nothing to go back to"
 
 -- what one step tells: so many bytes of the lent row are shown; or none, and the command is done; or why it is refused
 abbrev pub Told : Type 0
@@ -51,6 +63,17 @@ ActTold (refused k) r out out₁ = RefusedWith k r × (out₁ ≡ out)
 pub record Tells (s : Step) (r : Told) (out memory₁ out₁ : List ℕ) : Type 0 where
   pub memory : memory₁ ≡ s.memory
   pub act : ActTold s.act r out out₁
+
+-- an act that shows nothing, as it is told
+unfoldable pub DoneTold : Act → Told → Type 0
+DoneTold (shows s) r = ⊥
+DoneTold done r = r ≡ Ok None
+DoneTold (refused k) r = RefusedWith k r
+
+-- a step that shows nothing as it is told, and the memory after it
+pub record Does (s : Step) (r : Told) (memory₁ : List ℕ) : Type 0 where
+  pub memory : memory₁ ≡ s.memory
+  pub act : DoneTold s.act r
 
 -- one step: for memories of the machine's own length and a lent row of 131,072 bytes; for others it is misuse, whose number is 0, and nothing is changed
 unfoldable pub StepSays : Engine → (memory : List ℕ) (kind : ℕ) (text out : List ℕ) → Bool → Told → (memory₁ out₁ : List ℕ) → Type 0

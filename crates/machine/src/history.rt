@@ -2,14 +2,15 @@
 ghost use Rattle.std.specs.Prelude.{◌≡◌};
 ghost use Rattle.machine.specs.History.{moved_down, moved_up, placed, committed};
 ghost use Rattle.machine.specs.Machine.{undo_step};
-ghost use Rattle.machine.specs.Told.{Tells};
+ghost use Rattle.machine.specs.Told.{Does};
 
 use crate::told::{Refusal, Told};
 use memory::layout::{
     BUILD, CURRENT, FRAMES, LAST_SLOT, LENGTHS, MAX_OLDER, Memory, NEWEST_OLDER, OLDER, SLOTS,
 };
 
-// Lengths and slots move down by one: each program is the one before it, and the last stays.
+// Lengths and slots move down by one: each program is the one before it, and the last stays. Moving up goes in the opposite direction, with other
+// starts and ends: one function of both would be no plainer.
 fn move_down(memory: &mut Memory)
     ensures { memory.new ≡ moved_down memory.old }
 {
@@ -34,8 +35,8 @@ fn place(memory: &mut Memory, len: u64)
 }
 
 // The program before the current one is the current one again.
-pub fn undo(memory: &mut Memory, out: &mut [u8]) -> Told
-    ensures { Tells (undo_step memory.old) result out.old memory.new out.new }
+pub fn undo(memory: &mut Memory) -> Told
+    ensures { Does (undo_step memory.old) result memory.new }
 {
     let older = memory[OLDER];
     if older == 0 {

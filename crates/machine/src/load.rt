@@ -7,7 +7,7 @@ ghost use Rattle.language.specs.Table.{hash, table_from, none_like, all_differ};
 ghost use Rattle.machine.specs.Entries.{entries};
 ghost use Rattle.machine.specs.History.{loaded};
 ghost use Rattle.machine.specs.Machine.{table_cleared, load_step};
-ghost use Rattle.machine.specs.Told.{Tells};
+ghost use Rattle.machine.specs.Told.{Does};
 
 use crate::region::clear;
 use crate::told::{Refusal, Told};
@@ -41,6 +41,7 @@ fn pack(words: &mut [u64], text: &[u8])
     ensures { words.new ≡ packed text.now ++ drop (words_for (length text.now)) words.old }
 {
     let (whole, last) = text.as_chunks::<8>();
+    // By a number, since after `iter_mut` with `zip` nothing is known of the words: tried.
     for (k, bytes) in whole.iter().enumerate() {
         words[k] = u64::from_be_bytes(*bytes);
     }
@@ -90,24 +91,19 @@ fn fill_table<S: Source>(src: &S, count: usize, table: &mut [[u64; 2]]) -> usize
 fn none_like<S: Source>(src: &S, sum: u64, at: usize, table: &[[u64; 2]]) -> bool
     ensures { result ≡ none_like (S.bytes src.now) sum at (entries table.now) }
 {
-    for [other, there] in table {
-        if *other == sum && same_names(src, at, *there as usize) {
-            return false;
-        }
-    }
-    true
+    table.iter().all(|[other, there]| *other != sum || !same_names(src, at, *there as usize))
 }
 
 // No two functions of the table have one name.
 fn table_differs<S: Source>(src: &S, table: &[[u64; 2]]) -> bool
     ensures { result ≡ all_differ (S.bytes src.now) (entries table.now) }
 {
-    for (k, [sum, at]) in table.iter().enumerate() {
-        if !none_like(src, *sum, *at as usize, &table[k + 1..]) {
-            return false;
+    match table {
+        [] => true,
+        [[sum, at], rest @ ..] => {
+            none_like(src, *sum, *at as usize, rest) && table_differs(src, rest)
         }
     }
-    true
 }
 
 // No two functions have one name, and no function has two own names that are one. What the table holds then is no matter.
@@ -118,14 +114,12 @@ fn is_fine(program: Spelling<'_>, table: &mut [[u64; 2]]) -> bool
     let src = &Text {
         bytes: program.bytes,
     };
+    // A closure for `is_none_or` would need both clauses again, since it calls what has a requires: no plainer.
     let Some(count) = number(src, 0) else {
         return true;
     };
     let filled = fill_table(src, count as usize, table);
-    if !table_differs(src, &table[..filled]) {
-        return false;
-    }
-    owns_differ(src, count)
+    table_differs(src, &table[..filled]) && owns_differ(src, count)
 }
 
 // The same, with the table in the frames, which are zeros afterwards, whatever came out.
@@ -149,8 +143,8 @@ fn store(memory: &mut Memory, program: Spelling<'_>)
 }
 
 // The program becomes the current one if its names differ.
-pub fn load(memory: &mut Memory, program: Spelling<'_>, out: &mut [u8]) -> Told
-    ensures { Tells (load_step memory.old program.entry.bytes.now) result out.old memory.new out.new }
+pub fn load(memory: &mut Memory, program: Spelling<'_>) -> Told
+    ensures { Does (load_step memory.old program.entry.bytes.now) result memory.new }
 {
     if !names_differ(memory, program) {
         return Err(Refusal::NameTaken);

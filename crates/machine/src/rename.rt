@@ -8,7 +8,7 @@ ghost use Rattle.machine.specs.History.{accepted};
 ghost use Rattle.machine.specs.Rename.{renamed_step, rename_bind_step, rename_param_step};
 ghost use Rattle.expr.specs.Token.{spelled_in};
 ghost use Rattle.machine.specs.Renamed.{program_renamed, Written};
-ghost use Rattle.machine.specs.Told.{Tells};
+ghost use Rattle.machine.specs.Told.{Does};
 ghost use Rattle.scope.specs.Binding.{binder_of};
 ghost use Rattle.memory.specs.Layout.{held, put_words, zero_words};
 
@@ -50,8 +50,8 @@ fn write_new<S: Source>(
 }
 
 // What the binder gives is called `to`, and so are its uses: 5 where one would be captured, 7 where the program would be too large.
-fn rename(memory: &mut Memory, binder: Binder, to: &[u8], out: &mut [u8]) -> Told
-    ensures { Tells (renamed_step memory.old to.now (binder_of (held 0 memory.old) binder)) result out.old memory.new out.new }
+fn rename(memory: &mut Memory, binder: Binder, to: &[u8]) -> Told
+    ensures { Does (renamed_step memory.old to.now (binder_of (held 0 memory.old) binder)) result memory.new }
 {
     let (front, areas) = memory.split_at_mut(BUILD);
     let (area, areas) = areas.split_first_chunk_mut().unwrap();
@@ -75,26 +75,20 @@ fn rename(memory: &mut Memory, binder: Binder, to: &[u8], out: &mut [u8]) -> Tol
 }
 
 // The let at the place is called `to`.
-pub fn rename_bind(memory: &mut Memory, at: Target<'_>, to: &[u8], out: &mut [u8]) -> Told
-    ensures { Tells (rename_bind_step memory.old at.entry.function.now at.entry.place.now to.now) result out.old memory.new out.new }
+pub fn rename_bind(memory: &mut Memory, at: Target<'_>, to: &[u8]) -> Told
+    ensures { Does (rename_bind_step memory.old at.entry.function.now at.entry.place.now to.now) result memory.new }
 {
     let program = current(memory);
     let function = find_function(&program, at.function).ok_or(Refusal::Missing)?;
     let body = body_of(&program, function).ok_or(Refusal::Missing)?;
     let place = follow(&program, at.place, body).ok_or(Refusal::Missing)?;
     let bind = let_at(&program, place).ok_or(Refusal::WrongKind)?;
-    rename(memory, bind, to, out)
+    rename(memory, bind, to)
 }
 
 // The own name of that number is called `to`.
-pub fn rename_param(
-    memory: &mut Memory,
-    function: &[u8],
-    index: u8,
-    to: &[u8],
-    out: &mut [u8],
-) -> Told
-    ensures { Tells (rename_param_step memory.old function.now index to.now) result out.old memory.new out.new }
+pub fn rename_param(memory: &mut Memory, function: &[u8], index: u8, to: &[u8]) -> Told
+    ensures { Does (rename_param_step memory.old function.now index to.now) result memory.new }
 {
     let program = current(memory);
     let at = find_function(&program, function).ok_or(Refusal::Missing)?;
@@ -102,5 +96,5 @@ pub fn rename_param(
     if other_own_is(&program, at, index, to) {
         return Err(Refusal::Captured);
     }
-    rename(memory, own, to, out)
+    rename(memory, own, to)
 }

@@ -62,10 +62,10 @@ fn answer(memory: &mut Memory, request: Request<'_>, out: &mut Row) -> Told
     ensures { Tells (ask_step memory.old (request_asks request.entry)) result out.old memory.new out.new }
 {
     match request {
-        Request::Load { program } => load(memory, program, out),
+        Request::Load { program } => load(memory, program),
         Request::Show { function } => show(memory, function, out),
         Request::Names => show_name(memory, FIRST_FUNCTION, out),
-        Request::Undo => undo(memory, out),
+        Request::Undo => undo(memory),
         Request::RenameBind { .. }
         | Request::RenameParam { .. }
         | Request::RenameFunction { .. }

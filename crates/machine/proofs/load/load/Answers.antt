@@ -4,7 +4,7 @@ use Rattle.machine.proofs.load.load.Goals as goal
 
 pub returns-then-not-names_differ : goal.returns-then-not-names_differ
 returns-then-not-names_differ c =
-    load-refused _ _ _ _ _ c.if-not-names_differ.ensures.value c.names_differ.ensures.after refl
+    load-refused _ _ _ _ c.if-not-names_differ.ensures.value c.names_differ.ensures.after refl
 
 pub returns : goal.returns
-returns c = load-done _ _ _ _ _ c.if-not-names_differ.ensures.value c.names_differ.ensures.after c.store.ensures
+returns c = load-done _ _ _ _ c.if-not-names_differ.ensures.value c.names_differ.ensures.after c.store.ensures

@@ -19,7 +19,7 @@ returns-in-Ok c =
     let three = chunk _ _ 8192 _ c.split_first_chunk_mut-3.ensures.cases c.unwrap-3.ensures in
     let same = front-same m _ _ c.split_at_mut-front.ensures.front c.current.ensures in
     let long = c.write_new.ensures.long in
-    renamed-ok m c.args.to.now (binder_of (held 0 m) c.args.binder) c.args.out.now _ _ c.write_new.new.area _
+    renamed-ok m c.args.to.now (binder_of (held 0 m) c.args.binder) _ _ c.write_new.new.area _
     (written-same m _ same c.args.binder.name c.args.to.now (c.args.binder.name.from - 8) c.args.binder.body _ _ c.in-Ok.ensures.written)
     (λ bs count filled.
     c.accept.ensures
@@ -34,7 +34,7 @@ returns-in-Err c =
     let three = chunk _ _ 8192 _ c.split_first_chunk_mut-3.ensures.cases c.unwrap-3.ensures in
     let same = front-same m _ _ c.split_at_mut-front.ensures.front c.current.ensures in
     let long = c.write_new.ensures.long in
-    renamed-err m c.args.to.now (binder_of (held 0 m) c.args.binder) c.args.out.now _ _ c.write_new.new.area _
+    renamed-err m c.args.to.now (binder_of (held 0 m) c.args.binder) _ _ c.write_new.new.area _
     (written-same m _ same c.args.binder.name c.args.to.now (c.args.binder.name.from - 8) c.args.binder.body _ _ c.in-Err.ensures.written)
     (c.clear.ensures
     ∙ area-wiped m _ _ _ _ _ _ refl (omega arith) c.split_at_mut-front.ensures.front (reserve_is m _ _ _ _ c.split_at_mut-front.ensures.back one.back two.back three.back) long.0 long.1 long.2)

@@ -1,8 +1,14 @@
 -- Commands that are not known yet are refused as that.
-use Rattle.std.proofs.Common.{refl, inl, inr}
+use Rattle.std.proofs.Common.{rules, refl, inl, inr}
 use Rattle.machine.specs.declared.told.Refusal.TheVariants.{NotKnown}
-use Rattle.machine.proofs.StepFacts.{tells_no, answered_as}
+use Rattle.machine.proofs.StepFacts.{told_done, tells_no, answered_as}
 use Rattle.machine.proofs.step.answer.Goals as goal
+
+pub returns-in-Load : goal.returns-in-Load
+returns-in-Load c = answered_as _ _ _ _ _ _ _ c.in-Load.is (told_done _ _ _ _ (search rules))
+
+pub returns-in-Undo : goal.returns-in-Undo
+returns-in-Undo c = answered_as _ _ _ _ _ _ _ c.in-Undo.is (told_done _ _ _ _ (search rules))
 
 pub returns-in-RenameBind : goal.returns-in-RenameBind
 returns-in-RenameBind c =
