@@ -45,8 +45,11 @@ def source_of(crate, module):
 
 
 def function_at(crate, module, line):
-    """The function of a module whose text has this line."""
-    above = "\n".join(source_of(crate, module).split("\n")[:line])
+    """The function of a module whose text has this line; an attribute's is the one below it."""
+    lines = source_of(crate, module).split("\n")
+    while lines[line - 1].lstrip().startswith("#["):
+        line += 1
+    above = "\n".join(lines[:line])
     return f"{module}::" + re.findall(r"^ *(?:pub )?fn (\w+)", above, re.M)[-1]
 
 

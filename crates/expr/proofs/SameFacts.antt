@@ -5,12 +5,12 @@ use Rattle.language.proofs.ReadingFacts.{take_next}
 use lib.Pointwise.{pointwise}
 use Rattle.language.specs.Basics.{same}
 
-pub pointwise-same : (xs ys : List ℕ) → pointwise nat_eq xs ys ≡ same xs ys
+pub pointwise_same : (xs ys : List ℕ) → pointwise nat_eq xs ys ≡ same xs ys
 unfolding same
-pointwise-same [] [] = refl
-pointwise-same [] (y ∷ ys) = refl
-pointwise-same (x ∷ xs) [] = refl
-pointwise-same (x ∷ xs) (y ∷ ys) = ap (λ t. eqb x y && t) (pointwise-same xs ys)
+pointwise_same [] [] = refl
+pointwise_same [] (y ∷ ys) = refl
+pointwise_same (x ∷ xs) [] = refl
+pointwise_same (x ∷ xs) (y ∷ ys) = ap (λ t. eqb x y && t) (pointwise_same xs ys)
 
 -- bytes compared pair by pair, from i on in the one row and from j on in the other
 abbrev pub same_at : List ℕ → List ℕ → ℕ × ℕ → Bool
