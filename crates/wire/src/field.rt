@@ -1,5 +1,5 @@
 // The fields of a command: each is read from the front of what is left of its text.
-ghost use Rattle.std.specs.Prelude.{◌≡◌, ◌≤◌, length, drop, nat_lt};
+ghost use Rattle.std.specs.Prelude.{◌≡◌, ◌≤◌, [], length, drop, nat_lt, IfNone, IfSome};
 ghost use Rattle.std.specs.List.{between};
 ghost use Rattle.language.specs.Basics.{every};
 ghost use Rattle.model.specs.Reading.{field, name_in, place_in, index_in, last_name, target_in, last_target};
@@ -20,7 +20,7 @@ pub struct Target<'a> {
     pub place: &'a [u8],
 }
 
-// What is left of a command's text. Where a field is missing, nothing is said of what is left then.
+// What is left of a command's text. Where a field is missing, all of it is left as it was.
 #[derive(Clone, Copy, Debug, PartialEq, Eq)]
 pub struct Fields<'a> {
     pub rest: &'a [u8],
@@ -45,7 +45,8 @@ impl<'a> Fields<'a> {
     }
 
     pub fn name(&mut self) -> Option<&'a [u8]>
-        ensures { field_told result self.new.rest.now ≡ name_in self.old.rest.now }
+        ensures value { field_told result self.new.rest.now ≡ name_in self.old.rest.now }
+        ensures kept { IfNone result (self.new ≡ self.old) }
     {
         let end = skip_name(&Text { bytes: self.rest }, 0)?;
         Some(self.cut(8, end))
@@ -53,7 +54,8 @@ impl<'a> Fields<'a> {
 
     // One number below the limit.
     pub fn index(&mut self) -> Option<u8>
-        ensures { index_told result self.new.rest.now ≡ index_in self.old.rest.now }
+        ensures value { index_told result self.new.rest.now ≡ index_in self.old.rest.now }
+        ensures kept { IfNone result (self.new ≡ self.old) }
     {
         let (index, rest) = self.rest.split_first()?;
         if *index >= PART_LIMIT {
@@ -64,7 +66,8 @@ impl<'a> Fields<'a> {
     }
 
     pub fn place(&mut self) -> Option<&'a [u8]>
-        ensures { field_told result self.new.rest.now ≡ place_in self.old.rest.now }
+        ensures value { field_told result self.new.rest.now ≡ place_in self.old.rest.now }
+        ensures kept { IfNone result (self.new ≡ self.old) }
     {
         let count = number(&Text { bytes: self.rest }, 0)?;
         if count > MAX_PLACE {
@@ -74,32 +77,50 @@ impl<'a> Fields<'a> {
         if end > self.rest.len() {
             return None;
         }
-        let place = self.cut(8, end);
-        are_parts(place).then_some(place)
+        let mut ahead = *self;
+        let place = ahead.cut(8, end);
+        if !are_parts(place) {
+            return None;
+        }
+        *self = ahead;
+        Some(place)
     }
 
     // A function's name and a place in it.
     pub fn target(&mut self) -> Option<Target<'a>>
-        ensures { located_told result self.new.rest.now ≡ target_in self.old.rest.now }
+        ensures value { located_told result self.new.rest.now ≡ target_in self.old.rest.now }
+        ensures kept { IfNone result (self.new ≡ self.old) }
     {
-        let function = self.name()?;
-        let place = self.place()?;
+        let mut ahead = *self;
+        let function = ahead.name()?;
+        let place = ahead.place()?;
+        *self = ahead;
         Some(Target { function, place })
     }
 
     // A name with nothing after it.
     pub fn last_name(&mut self) -> Option<&'a [u8]>
-        ensures { bytes_told result ≡ last_name self.old.rest.now }
+        ensures value { bytes_told result ≡ last_name self.old.rest.now }
+        ensures left { IfSome result (λ _. self.new.rest.now ≡ []) }
+        ensures kept { IfNone result (self.new ≡ self.old) }
     {
-        let name = self.name()?;
-        self.rest.is_empty().then_some(name)
+        let mut ahead = *self;
+        let name = ahead.name()?;
+        let last = ahead.rest.is_empty().then_some(name)?;
+        *self = ahead;
+        Some(last)
     }
 
     // A place in a function, with nothing after it.
     pub fn last_target(&mut self) -> Option<Target<'a>>
-        ensures { target_told result ≡ last_target self.old.rest.now }
+        ensures value { target_told result ≡ last_target self.old.rest.now }
+        ensures left { IfSome result (λ _. self.new.rest.now ≡ []) }
+        ensures kept { IfNone result (self.new ≡ self.old) }
     {
-        let target = self.target()?;
-        self.rest.is_empty().then_some(target)
+        let mut ahead = *self;
+        let target = ahead.target()?;
+        let last = ahead.rest.is_empty().then_some(target)?;
+        *self = ahead;
+        Some(last)
     }
 }
