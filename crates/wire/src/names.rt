@@ -1,8 +1,10 @@
 // Names in a row of bytes, one after the other.
-ghost use Rattle.std.specs.Prelude.{◌≡◌, IfSome};
+ghost use Rattle.std.specs.Prelude.{◌≡◌, ◌+◌, IfSome};
 ghost use Rattle.std.specs.Iterator.{item_count};
+ghost use Rattle.std.specs.Option.{option_map};
 ghost use Rattle.language.specs.Contents.{name_there};
 ghost use Rattle.language.specs.Names.{has, distinct};
+ghost use Rattle.language.specs.Reading.{number_at};
 ghost use Rattle.wire.specs.Walk.{YieldsFirstOf, names_counted, names_left, names_told, places_left};
 
 use expr::compare::same_names;
@@ -37,6 +39,8 @@ impl<'a, S: Source> Names<'a, S> {
     pub fn counted(src: &'a S, at: usize) -> Option<Names<'a, S>>
         ensures value { names_told S.bytes result ≡ names_counted (S.bytes src.now) at }
         ensures row { IfSome result (λ names. names.src.now ≡ src.now) }
+        ensures place { IfSome result (λ names. names.at ≡ at + 8) }
+        ensures count { option_map (λ names. names.count) result ≡ number_at (S.bytes src.now) at }
     {
         let count = number(src, at)?;
         Some(Names {
