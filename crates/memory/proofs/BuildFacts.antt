@@ -4,8 +4,8 @@ use Rattle.std.proofs.lemmas.List.{drop_more, drop_all, length-append}
 use Rattle.std.specs.Prelude.{⊤}
 use Rattle.language.specs.Basics.{pick}
 use Rattle.language.proofs.ByteFacts.{bytes_append}
-use Rattle.memory.specs.Build.{Writing, writing_at, writing, word_with, pushed, pushed_all, Pushed, Appended, Appends}
-use Rattle.memory.specs.declared.build.Build.{Build}
+use Rattle.memory.specs.Build.{Writing, writing_at, writing, word_with, pushed, pushed_all, Pushed, Appended}
+use Rattle.memory.specs.declared.build.Writer.{Writer}
 
 abbrev pub written_in : Writing → ℕ
 written_in w = w.words * 8 + w.filled
@@ -64,13 +64,13 @@ pushed-append [] vs w = refl
 pushed-append (u ∷ us) vs w = pushed-append us vs (pushed w u)
 
 -- how many bytes are written once some were appended
-pub appended-count : (b : Build) (vs : List ℕ) (c : Build) → Pushed b vs c → c.written ≡ b.written + length vs
+pub appended-count : (b : Writer) (vs : List ℕ) (c : Writer) → Pushed b vs c → c.build.written ≡ b.build.written + length vs
 appended-count b vs c a =
     let w = subst (λ v. Written (writing b) v (length vs)) (sym a.so) (written_all (writing b) vs (omega arith)) in
     omega (arith, w.count)
 
 -- a piece, and what comes after it
-pub pushed_then : (b : Build) (us : List ℕ) (c : Build) (vs : List ℕ) (d : Build) → Pushed b us c → Pushed c vs d → Pushed b (us ++ vs) d
+pub pushed_then : (b : Writer) (us : List ℕ) (c : Writer) (vs : List ℕ) (d : Writer) → Pushed b us c → Pushed c vs d → Pushed b (us ++ vs) d
 pushed_then b us c vs d p q =
     record {
       so = q.so ∙ ap (λ w. pushed_all w vs) p.so ∙ sym (pushed-append us vs (writing b));
@@ -78,14 +78,16 @@ pushed_then b us c vs d p q =
       bytes = bytes_append us vs p.bytes q.bytes;
     }
 
-pub appends_then : (b : Build) (us : List ℕ) (c : Build) (vs : List ℕ) (r : Option ⊤) (d : Build) → Pushed b us c → Appends c vs r d → Appends b (us ++ vs) r d
-appends_then b us c vs None d p q = omega (arith, q, appended-count b us c p, length-append us vs)
-appends_then b us c vs (Some _) d p q = pushed_then b us c vs d p q
-
-pub appends_stop : (b : Build) (us vs : List ℕ) → 65536 < b.written + length us → 65536 < b.written + length (us ++ vs)
+-- where there is no room for a piece, there is none for more
+pub appends_stop : (b : Writer) (us vs : List ℕ) → 65536 < b.build.written + length us → 65536 < b.build.written + length (us ++ vs)
 appends_stop b us vs p = omega (arith, p, length-append us vs)
 
--- one piece
-pub appends_one : (b : Build) (vs : List ℕ) (r : Option ⊤) (c : Build) → Appended b vs r c → Appends b vs r c
-appends_one b vs None c a = a.1
-appends_one b vs (Some _) c a = a
+-- where there is no room for what comes after a piece, there is none for both
+pub appends_full : (b : Writer) (us : List ℕ) (c : Writer) (vs : List ℕ) → Pushed b us c → 65536 < c.build.written + length vs → 65536 < b.build.written + length (us ++ vs)
+appends_full b us c vs p q = omega (arith, q, appended-count b us c p, length-append us vs)
+
+-- where there is room for both, what comes after a piece is written
+pub appends_then : (b : Writer) (us : List ℕ) (c : Writer) (vs : List ℕ) (r : Option ⊤) (d : Writer) → b.build.written + length (us ++ vs) ≤ 65536 → Pushed b us c → Appended c vs r d →
+    Appended b (us ++ vs) r d
+appends_then b us c vs None d room p q = absurd (omega (arith, room, appends_full b us c vs p q.1))
+appends_then b us c vs (Some _) d room p q = pushed_then b us c vs d p q

@@ -11,7 +11,7 @@ use Rattle.language.proofs.StandsFacts.{bytes_below}
 use Rattle.language.proofs.PackedLaws.{length_packed_words, packed_word}
 use Rattle.memory.specs.Layout.{zero_words, slot_filled}
 use Rattle.memory.specs.Build.{writing_at, writing, pushed_all, Pushed, finished}
-use Rattle.memory.specs.declared.build.Build.{Build}
+use Rattle.memory.specs.declared.build.Writer.{Writer}
 
 -- words put one after the other
 pub put_each : List ℕ → ℕ → List ℕ → List ℕ
@@ -105,10 +105,10 @@ put_in_zeros (v ∷ vs) m (suc n) few =
 pub built_law : (bs : List ℕ) → length bs ≤ 65536 → all_bytes bs ≡ true → finished (pushed_all (writing_at (zero_words 8192) 0 0 0) bs) ≡ slot_filled bs
 built_law bs short bytes = laid bs (zero_words 8192) 0 bytes ∙ put_in_zeros (packed bs) [] 8192 (omega (arith, length_packed_words bs))
 
-pub built_begun : (b c : Build) (bs : List ℕ) → b.written ≡ 0 → b.word ≡ 0 → b.area.now ≡ zero_words 8192 → Pushed b bs c → finished (writing c) ≡ slot_filled bs
+pub built_begun : (b c : Writer) (bs : List ℕ) → b.build.written ≡ 0 → b.build.word ≡ 0 → b.area.now ≡ zero_words 8192 → Pushed b bs c → finished (writing c) ≡ slot_filled bs
 built_begun b c bs none empty zeros p =
     ap finished
     (p.so
-    ∙ ap (λ n. pushed_all (writing_at b.area.now (n / 8) (n % 8) b.word) bs) none
+    ∙ ap (λ n. pushed_all (writing_at b.area.now (n / 8) (n % 8) b.build.word) bs) none
     ∙ ap₂ (λ l v. pushed_all (writing_at l 0 0 v) bs) zeros empty)
     ∙ built_law bs (omega (arith, p.room)) p.bytes

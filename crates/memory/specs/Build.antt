@@ -3,7 +3,7 @@
 use Rattle.std.specs.Prelude.{◌≡◌, ℕ, ◌+◌, ◌-◌, ◌*◌, ◌/◌, ◌%◌, ◌<◌, ◌≤◌, true, List, [], ◌∷◌, length, replicate, Some, None, Option, ⊤, ◌==◌, nat_lt, slice_set}
 use Rattle.language.specs.Basics.{pick}
 use Rattle.language.specs.Bytes.{all_bytes}
-use Rattle.memory.specs.declared.build.Build.{Build}
+use Rattle.memory.specs.declared.build.Writer.{Writer}
 
 -- an area, and how far the writing is in it: whole words, bytes since then, and those as a number
 pub record Writing : Type 0 where
@@ -15,8 +15,8 @@ pub record Writing : Type 0 where
 abbrev pub writing_at : List ℕ → ℕ → ℕ → ℕ → Writing
 writing_at m n k v = record { area = m; words = n; filled = k; word = v }
 
-abbrev pub writing : Build → Writing
-writing b = writing_at b.area.now (b.written / 8) (b.written % 8) b.word
+abbrev pub writing : Writer → Writing
+writing b = writing_at b.area.now (b.build.written / 8) (b.build.written % 8) b.build.word
 
 -- the bytes since the last whole word, and one more
 abbrev pub word_with : Writing → ℕ → ℕ
@@ -32,20 +32,15 @@ pushed_all w [] = w
 pushed_all w (v ∷ vs) = pushed_all (pushed w v) vs
 
 -- the bytes, and they are bytes, were written, for which there was room
-pub record Pushed (b : Build) (vs : List ℕ) (c : Build) : Type 0 where
+pub record Pushed (b : Writer) (vs : List ℕ) (c : Writer) : Type 0 where
   pub so : writing c ≡ pushed_all (writing b) vs
-  pub room : b.written + length vs ≤ 65536
+  pub room : b.build.written + length vs ≤ 65536
   pub bytes : all_bytes vs ≡ true
 
--- the bytes are written, if there is room for them
-abbrev pub Appended : Build → List ℕ → Option ⊤ → Build → Type 0
-Appended b vs None c = (c ≡ b) × (65536 < b.written + length vs)
+-- the bytes are written, if there is room for them; if not, nothing changes
+abbrev pub Appended : Writer → List ℕ → Option ⊤ → Writer → Type 0
+Appended b vs None c = (c ≡ b) × (65536 < b.build.written + length vs)
 Appended b vs (Some _) c = Pushed b vs c
-
--- the bytes are written in several pieces, if there is room for all of them
-abbrev pub Appends : Build → List ℕ → Option ⊤ → Build → Type 0
-Appends b vs None c = 65536 < b.written + length vs
-Appends b vs (Some _) c = Pushed b vs c
 
 -- zeros behind the last byte, up to a whole word
 abbrev pub finished : Writing → List ℕ

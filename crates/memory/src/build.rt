@@ -2,7 +2,7 @@
 ghost use Rattle.std.specs.Prelude.{◌≡◌, ◌+◌, ◌<◌, ◌≤◌, length};
 ghost use Rattle.expr.specs.Token.{spelled_in};
 ghost use Rattle.language.specs.Bytes.{eight, with_length};
-ghost use Rattle.memory.specs.Build.{writing, pushed, Appended, Appends, finished};
+ghost use Rattle.memory.specs.Build.{writing, pushed, Appended, finished};
 ghost use Rattle.memory.specs.Layout.{zero_words};
 
 use crate::layout::Slot;
@@ -10,40 +10,48 @@ use expr::skip::MAX_BYTES;
 use expr::source::{Source, Text};
 use expr::token::Span;
 
-// A program that is being written: so many bytes are in the area, those since the last whole word in `word`.
-#[derive(Drop)]
-pub struct Build<'a> {
-    area: &'a mut Slot,
-    written: usize,
-    word: u64,
+// How far a writing is: so many bytes are written, those since the last whole word in `word`.
+#[derive(Clone, Copy, Debug, PartialEq, Eq)]
+pub struct Build {
+    pub written: usize,
+    pub word: u64,
 }
 
-impl<'a> Build<'a> {
+// A program that is being written: its area, and how far the writing is.
+#[derive(Drop)]
+pub struct Writer<'a> {
+    pub area: &'a mut Slot,
+    pub build: Build,
+}
+
+impl<'a> Writer<'a> {
     // Nothing is written yet, and the area is zeros.
-    pub fn begin(area: &'a mut Slot) -> Build<'a>
+    pub fn begin(area: &'a mut Slot) -> Writer<'a>
         ensures same_reference { result.area.ghost_name ≡ area.entry.ghost_name }
-        ensures value { (result.written ≡ 0) × (result.word ≡ 0) }
+        ensures value { (result.build.written ≡ 0) × (result.build.word ≡ 0) }
         ensures after { result.area.now ≡ zero_words 8192 }
     {
         area.fill(0);
-        Build {
+        Writer {
             area,
-            written: 0,
-            word: 0,
+            build: Build {
+                written: 0,
+                word: 0,
+            },
         }
     }
 
     fn push(&mut self, byte: u8)
-        requires { self.old.written < 65536 }
+        requires { self.old.build.written < 65536 }
         ensures same_reference { self.new.area.ghost_name ≡ self.old.area.ghost_name }
         ensures value { writing self.new ≡ pushed (writing self.old) byte }
     {
-        let at = self.written;
-        self.word = self.word.wrapping_mul(256).wrapping_add(u64::from(byte));
-        self.written = at + 1;
-        if self.written.is_multiple_of(8) {
-            self.area[at / 8] = self.word;
-            self.word = 0;
+        let Build { written: at, word } = self.build;
+        self.build.word = word.wrapping_mul(256).wrapping_add(u64::from(byte));
+        self.build.written = at + 1;
+        if self.build.written.is_multiple_of(8) {
+            self.area[at / 8] = self.build.word;
+            self.build.word = 0;
         }
     }
 
@@ -53,7 +61,7 @@ impl<'a> Build<'a> {
         ensures value { Appended self.old (spelled_in (S.bytes src.now) span) result self.new }
     {
         let inside = span.within(src.len());
-        if self.written.saturating_add(inside.len()) > MAX_BYTES {
+        if self.build.written.saturating_add(inside.len()) > MAX_BYTES {
             return None;
         }
         for i in inside.from..inside.to {
@@ -76,22 +84,27 @@ impl<'a> Build<'a> {
     // A name with its length before it.
     pub fn append_name(&mut self, name: &[u8]) -> Option<()>
         ensures same_reference { self.new.area.ghost_name ≡ self.old.area.ghost_name }
-        ensures value { Appends self.old (with_length name.now) result self.new }
+        ensures value { Appended self.old (with_length name.now) result self.new }
     {
-        self.append_bytes(&name.len().to_be_bytes())?;
+        // Nothing is written unless there is room for both.
+        let len = name.len();
+        if self.build.written.saturating_add(8).saturating_add(len) > MAX_BYTES {
+            return None;
+        }
+        self.append_bytes(&len.to_be_bytes())?;
         self.append_bytes(name)
     }
 
     // The last word is whole, with zeros behind; how many bytes were written.
     pub fn finish(self) -> usize
-        requires { self.written ≤ 65536 }
-        ensures value { result ≡ self.entry.written }
+        requires { self.build.written ≤ 65536 }
+        ensures value { result ≡ self.entry.build.written }
         ensures after { self.exit.0.now ≡ finished (writing self.entry) }
     {
-        let count = self.written;
+        let count = self.build.written;
         let filled = count % 8;
         if filled != 0 {
-            self.area[count / 8] = self.word << (64 - 8 * filled);
+            self.area[count / 8] = self.build.word << (64 - 8 * filled);
         }
         count
     }

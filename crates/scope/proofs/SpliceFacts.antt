@@ -5,7 +5,7 @@ use Rattle.std.proofs.lemmas.List.{drop_all, drop_more, length-append, append_as
 use Rattle.std.proofs.lemmas.Slice.{between_to_end}
 use Rattle.language.specs.Splice.{spliced_from}
 use Rattle.scope.specs.Splicing.{Replaced}
-use Rattle.memory.specs.declared.build.Build.{Build}
+use Rattle.memory.specs.declared.build.Writer.{Writer}
 use Rattle.memory.specs.Build.{writing, pushed_all, Pushed, finished}
 use Rattle.memory.specs.Layout.{zero_words, slot_filled}
 use Rattle.memory.proofs.BuildFacts.{appended-count, pushed_then}
@@ -25,9 +25,9 @@ late bs new w (k ∷ ks) i j p q = ap (λ l. l ++ (new ++ spliced_from bs new w 
     none i p = ap (take (k - i)) (drop_all i bs p) ∙ take_none (k - i)
 
 -- all was written
-pub record Whole (bs : List ℕ) (c : Build) : Type 0 where
-  pub short : c.written ≤ 65536
-  pub count : c.written ≡ length bs
+pub record Whole (bs : List ℕ) (c : Writer) : Type 0 where
+  pub short : c.build.written ≤ 65536
+  pub count : c.build.written ≡ length bs
   pub stands : finished (writing c) ≡ slot_filled bs
 
 module _ (bs new : List ℕ) (w : ℕ) where
@@ -39,21 +39,21 @@ module _ (bs new : List ℕ) (w : ℕ) where
       go true e = ap (spliced_from bs new w ks) (let z : k + w ≡ from = omega (arith, ltb-true _ _ e) in z)
       go false e = late bs new w ks (k + w) from (omega (arith, ltb-false _ _ e)) (omega (arith, ltb-false _ _ e))
 
-  module _ (ks : List ℕ) (b₀ : Build) where
+  module _ (ks : List ℕ) (b₀ : Writer) where
     abbrev pub total : List ℕ
     total = spliced_from bs new w ks 0
 
     -- of all that is to come at first, so much was written after k names, and the rest of the program is to come then
-    pub record SplicedTo (k : ℕ) (b : Build) (from : ℕ) : Type 0 where
+    pub record SplicedTo (k : ℕ) (b : Writer) (from : ℕ) : Type 0 where
       pub done : List ℕ
       pub written : Pushed b₀ done b
       pub all : total ≡ done ++ spliced_from bs new w (drop k ks) from
 
-    pub splice_none : b₀.written ≤ 65536 → SplicedTo 0 b₀ 0
+    pub splice_none : b₀.build.written ≤ 65536 → SplicedTo 0 b₀ 0
     unfolding pushed_all
     splice_none room = record { done = []; written = record { so = refl; room = omega arith; bytes = refl }; all = refl }
 
-    module _ (k : ℕ) (b : Build) (from : ℕ) (so_far : SplicedTo k b from) where
+    module _ (k : ℕ) (b : Writer) (from : ℕ) (so_far : SplicedTo k b from) where
       -- a name more
       module _ (more : k < length ks) (to : ℕ) (is : to ≡ get_or ks k 0) where
         abbrev pub piece : List ℕ
@@ -66,7 +66,7 @@ module _ (bs new : List ℕ) (w : ℕ) where
             ∙ ap (λ r. so_far.done ++ r) (sym (append_assoc (between from to bs) new (spliced_from bs new w (drop (k + 1) ks) (to + w))))
             ∙ sym (append_assoc so_far.done piece (spliced_from bs new w (drop (k + 1) ks) (to + w)))
 
-        pub splice_stop : b₀.written ≡ 0 → 65536 < b.written + length piece → 65536 < length total
+        pub splice_stop : b₀.build.written ≡ 0 → 65536 < b.build.written + length piece → 65536 < length total
         splice_stop start full =
             omega (
               arith,
@@ -78,7 +78,7 @@ module _ (bs new : List ℕ) (w : ℕ) where
               length-append so_far.done piece,
             )
 
-        pub splice_more : (c : Build) → Pushed b piece c → (next most width : ℕ) → length bs ≤ most → w ≡ 8 + width → next ≡ min (min (to + 8) most + width) most → SplicedTo (k + 1) c next
+        pub splice_more : (c : Writer) → Pushed b piece c → (next most width : ℕ) → length bs ≤ most → w ≡ 8 + width → next ≡ min (min (to + 8) most + width) most → SplicedTo (k + 1) c next
         splice_more c p next most width short wide at =
             record {
               done = so_far.done ++ piece;
@@ -94,7 +94,7 @@ module _ (bs new : List ℕ) (w : ℕ) where
             so_far.all ∙ ap (λ l. so_far.done ++ spliced_from bs new w l from) (drop_all k ks over) ∙ ap (λ r. so_far.done ++ r) (sym (between_to_end bs from (length bs) (omega arith)))
 
         module _ (len : ℕ) (is : len ≡ length bs) where
-          pub rest_stop : b₀.written ≡ 0 → 65536 < b.written + length (between from len bs) → 65536 < length total
+          pub rest_stop : b₀.build.written ≡ 0 → 65536 < b.build.written + length (between from len bs) → 65536 < length total
           rest_stop start full =
               omega (
                 arith,
@@ -106,7 +106,7 @@ module _ (bs new : List ℕ) (w : ℕ) where
                 length-append so_far.done (between from (length bs) bs),
               )
 
-          pub rest_more : (c : Build) → Pushed b (between from len bs) c → b₀.written ≡ 0 → b₀.word ≡ 0 → b₀.area.now ≡ zero_words 8192 → Whole total c
+          pub rest_more : (c : Writer) → Pushed b (between from len bs) c → b₀.build.written ≡ 0 → b₀.build.word ≡ 0 → b₀.area.now ≡ zero_words 8192 → Whole total c
           rest_more c p none empty zeros =
               let q = pushed_then b₀ so_far.done b (between from len bs) c so_far.written p in
               let whole = subst (λ l. Pushed b₀ l c) (ap (λ k. so_far.done ++ between from k bs) is ∙ sym with-rest) q in

@@ -7,7 +7,7 @@ ghost use Rattle.scope.specs.Splicing.{Replaced};
 use crate::renaming::Renaming;
 use expr::source::Source;
 use expr::token::Span;
-use memory::build::Build;
+use memory::build::Writer;
 use memory::layout::Slot;
 
 // The program with the new name at each of the places, in the area, with zeros behind: how many bytes it has; none where there are too many.
@@ -21,15 +21,15 @@ pub fn write_renamed<S: Source>(
 {
     let len = renaming.program.len();
     let width = renaming.from.within(len).len();
-    let mut build = Build::begin(area);
+    let mut writer = Writer::begin(area);
     let mut from = 0;
     for at in uses {
         let to = *at as usize;
-        build.append(renaming.program, Span { from, to })?;
-        build.append_name(renaming.to)?;
+        writer.append(renaming.program, Span { from, to })?;
+        writer.append_name(renaming.to)?;
         // A name has its length before it.
         from = to.saturating_add(8).saturating_add(width);
     }
-    build.append(renaming.program, Span { from, to: len })?;
-    Some(build.finish())
+    writer.append(renaming.program, Span { from, to: len })?;
+    Some(writer.finish())
 }

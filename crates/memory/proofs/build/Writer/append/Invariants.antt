@@ -3,7 +3,7 @@ use Rattle.std.proofs.Common.{◌≡◌, ◌-◌}
 use Rattle.std.specs.List.{between}
 use Rattle.memory.specs.Build.{writing}
 use Rattle.memory.proofs.BuildFacts.{Going}
-use Rattle.memory.proofs.build.Build.append.Given as goal
+use Rattle.memory.proofs.build.Writer.append.Given as goal
 
 abbrev pub invariant-loop-i : goal.invariant-loop-i
 invariant-loop-i g l =

@@ -1,7 +1,7 @@
 -- With zeros behind them, the bytes since the last whole word are moved up in theirs.
 use Rattle.std.proofs.Common.{◌≡◌, ℕ, zero, suc, ◌-◌, ◌*◌, ◌^◌, ◌%◌, ◌≢◌, ◌<◌, List, set, refl, ap, arith}
 use Rattle.memory.specs.Build.{writing_at, finished, pushed_all}
-use Rattle.memory.proofs.build.Build.finish.Goals as goal
+use Rattle.memory.proofs.build.Writer.finish.Goals as goal
 
 moved : (m : List ℕ) (n k v : ℕ) → k < 8 → k ≢ 0 → set m n ((v * 2 ^ (64 - 8 * k)) % 18446744073709551616) ≡ finished (writing_at m n k v)
 unfolding pushed_all
@@ -16,4 +16,4 @@ moved m n (suc (suc (suc (suc (suc (suc (suc zero))))))) v short some = ap (set 
 moved m n (suc (suc (suc (suc (suc (suc (suc (suc k)))))))) v short some = absurd (omega arith)
 
 pub returns-then-filled-ne0-clause-after : goal.returns-then-filled-ne0-clause-after
-returns-then-filled-ne0-clause-after c = moved c.args.self.area.now _ _ c.args.self.word (omega arith) c.if-filled-ne0.true
+returns-then-filled-ne0-clause-after c = moved c.args.self.area.now _ _ c.args.self.build.word (omega arith) c.if-filled-ne0.true

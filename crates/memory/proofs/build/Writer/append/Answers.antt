@@ -5,7 +5,7 @@ use Rattle.language.proofs.ListFacts.{every_from}
 use Rattle.std.proofs.lemmas.List.Edits.{length-between, get_or-between}
 use Rattle.memory.specs.Build.{writing, Pushed}
 use Rattle.memory.proofs.BuildFacts.{Going, going_from, going_more, going_all}
-use Rattle.memory.proofs.build.Build.append.Goals as goal
+use Rattle.memory.proofs.build.Writer.append.Goals as goal
 
 pub loop-i-init : goal.loop-i-init
 loop-i-init g c =
