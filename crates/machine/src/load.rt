@@ -95,6 +95,7 @@ fn none_like<S: Source>(src: &S, sum: u64, at: usize, table: &[[u64; 2]]) -> boo
 }
 
 // No two functions of the table have one name.
+#[tactic(auto, using(crate::proofs::EntryFacts::differ_none, crate::proofs::EntryFacts::differ_turn))]
 fn table_differs<S: Source>(src: &S, table: &[[u64; 2]]) -> bool
     ensures { result ≡ all_differ (S.bytes src.now) (entries table.now) }
 {

@@ -1,5 +1,5 @@
 // Writing a new program into the build area: bytes are appended, eight make a word.
-ghost use Rattle.std.specs.Prelude.{◌≡◌, ◌+◌, ◌<◌, ◌≤◌, length};
+ghost use Rattle.std.specs.Prelude.{◌≡◌, ◌+◌, ◌/◌, ◌%◌, ◌<◌, ◌≤◌, length};
 ghost use Rattle.expr.specs.Token.{spelled_in};
 ghost use Rattle.language.specs.Bytes.{eight, with_length};
 ghost use Rattle.memory.specs.Build.{writing, pushed, Appended, finished};
@@ -10,11 +10,29 @@ use expr::skip::MAX_BYTES;
 use expr::source::{Source, Text};
 use expr::token::Span;
 
+const WORD_BYTES: usize = 8;
+
 // How far a writing is: so many bytes are written, those since the last whole word in `word`.
 #[derive(Clone, Copy, Debug, PartialEq, Eq)]
 pub struct Build {
     pub written: usize,
     pub word: u64,
+}
+
+impl Build {
+    // How many words of the area are whole.
+    pub fn words(self) -> usize
+        ensures { result ≡ self.written / 8 }
+    {
+        self.written / WORD_BYTES
+    }
+
+    // How many bytes were written since.
+    pub fn filled(self) -> usize
+        ensures { result ≡ self.written % 8 }
+    {
+        self.written % WORD_BYTES
+    }
 }
 
 // A program that is being written: its area, and how far the writing is.
@@ -46,11 +64,11 @@ impl<'a> Writer<'a> {
         ensures same_reference { self.new.area.ghost_name ≡ self.old.area.ghost_name }
         ensures value { writing self.new ≡ pushed (writing self.old) byte }
     {
-        let Build { written: at, word } = self.build;
-        self.build.word = word.wrapping_mul(256).wrapping_add(u64::from(byte));
-        self.build.written = at + 1;
-        if self.build.written.is_multiple_of(8) {
-            self.area[at / 8] = self.build.word;
+        let start = self.build;
+        self.build.word = start.word.wrapping_mul(256).wrapping_add(u64::from(byte));
+        self.build.written = start.written + 1;
+        if self.build.filled() == 0 {
+            self.area[start.words()] = self.build.word;
             self.build.word = 0;
         }
     }
@@ -102,9 +120,9 @@ impl<'a> Writer<'a> {
         ensures after { self.exit.0.now ≡ finished (writing self.entry) }
     {
         let count = self.build.written;
-        let filled = count % 8;
+        let filled = self.build.filled();
         if filled != 0 {
-            self.area[count / 8] = self.build.word << (64 - 8 * filled);
+            self.area[self.build.words()] = self.build.word << (64 - 8 * filled);
         }
         count
     }

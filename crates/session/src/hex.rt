@@ -109,6 +109,7 @@ pub fn read_hex(heap: Global, text: &[u8]) -> Result<Vec<u8>, HexError>
         let byte = read_pair(pair).map_err(|error| error.beyond(2 * bytes.len()))?;
         bytes.push(byte)?;
     }
+    // A byte that is alone is no pair of digits, whatever it is.
     if !alone.is_empty() {
         read_pair(alone).map_err(|error| error.beyond(2 * bytes.len()))?;
     }
