@@ -6,6 +6,7 @@ ghost use Rattle.language.specs.Bytes.{eight};
 ghost use Rattle.memory.specs.Layout.{memory_fits, held};
 
 use expr::packed::Packed;
+use expr::skip::MAX_BYTES;
 
 pub const MEMORY_WORDS: usize = 262144;
 // Where the next row of an answer under way begins, plus 1; 0 if none is.
@@ -79,6 +80,7 @@ pub fn current(memory: &[u64]) -> Packed<'_>
 {
     Packed {
         words: &memory[CURRENT..NEWEST_OLDER],
-        len: (memory[LENGTHS] as usize).saturating_add(8),
+        // No slot has more: said here, since else each byte that is read is tested for it.
+        len: (memory[LENGTHS] as usize).saturating_add(8).min(MAX_BYTES),
     }
 }

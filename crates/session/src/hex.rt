@@ -54,10 +54,19 @@ fn digit_of(value: u8) -> u8
     char::from_digit(u32::from(value), 16).unwrap() as u8
 }
 
+// Not by `to_digit`, which tells the letters of any radix: a long line then takes a third longer.
 fn value_of(byte: u8) -> Option<u8>
     ensures { result ≡ digit_value byte }
 {
-    char::from(byte).to_digit(16).map(|value| value as u8)
+    let digit = byte.wrapping_sub(b'0');
+    if digit < 10 {
+        return Some(digit);
+    }
+    let letter = byte.to_ascii_lowercase().wrapping_sub(b'a');
+    if letter < 6 {
+        return Some(letter + 10);
+    }
+    None
 }
 
 fn digit_at(pair: &[u8], at: usize) -> Result<u8, HexError>
@@ -103,7 +112,7 @@ pub fn read_hex(heap: Global, text: &[u8]) -> Result<Vec<u8>, HexError>
     ensures even_digits { EvenDigits }
 {
     let mut bytes = Vec::with_capacity(heap, text.len() / 2)?;
-    // By `as_chunks`, whose pairs are known to be two: over `chunks(2)` a long line takes a third longer.
+    // By `as_chunks`, whose pairs are two bytes by their type: of `chunks(2)` each pair's length is tested.
     let (pairs, alone) = text.as_chunks::<2>();
     for pair in pairs {
         let byte = read_pair(pair).map_err(|error| error.beyond(2 * bytes.len()))?;

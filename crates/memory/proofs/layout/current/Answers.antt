@@ -11,6 +11,6 @@ unfolding held
 returns c =
     let bs = flat eight (slot 0 c.args.memory.now) in
     let len = get_or c.args.memory.now 2 0 + 8 in
-    let same : min c.saturating_add.result (length bs) ≡ min len (length bs) =
-    omega (arith, c.saturating_add.ensures, length-packed (slot 0 c.args.memory.now), length-take 8192 (drop 16 c.args.memory.now)) in
-    sym (take_min c.saturating_add.result bs) ∙ ap (λ n. take n bs) same ∙ take_min len bs
+    let same : min c.min.result (length bs) ≡ min len (length bs) =
+    omega (arith, c.saturating_add.ensures, c.min.ensures, length-packed (slot 0 c.args.memory.now), length-take 8192 (drop 16 c.args.memory.now)) in
+    sym (take_min c.min.result bs) ∙ ap (λ n. take n bs) same ∙ take_min len bs
