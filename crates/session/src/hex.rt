@@ -54,7 +54,7 @@ fn digit_of(value: u8) -> u8
     char::from_digit(u32::from(value), 16).unwrap() as u8
 }
 
-// Not by `to_digit`, which tells the letters of any radix: a long line then takes a third longer.
+// Not by `to_digit`, which tells the letters of any radix: a program's line then takes two fifths longer.
 fn value_of(byte: u8) -> Option<u8>
     ensures { result ≡ digit_value byte }
 {
